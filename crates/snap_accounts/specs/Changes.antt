@@ -1,6 +1,5 @@
 -- What a plain call changes beside the journal.
--- Cited by `Accounts::plan`, `Accounts::carry_out`.
-use Rattle.std.specs.Prelude.{◌≡◌, ℕ, ◌<◌, true, false, List, [], ◌∷◌, ◌++◌, length, Some, IsSome, IsSomeAnd}
+use Rattle.std.specs.Prelude.{◌≡◌, ℕ, ◌<◌, ◌==◌, Bool, true, false, List, [], ◌∷◌, ◌++◌, length, Some, IsSome, IsSomeAnd}
 use Rattle.snap_usage.specs.declared.usage.Usage.{Usage}
 use Rattle.snap_usage.specs.Counted.{Covers}
 use Rattle.snap_lease.specs.Lease.{empty_lease}
@@ -79,3 +78,14 @@ CanChange s (LeaseNameEnd namespace lease name) = lease_names s.leases namespace
 CanChange s (LeaseEnd namespace lease) = has_lease s.leases namespace lease ≡ true
 CanChange s (Sweep place namespace moment keys freed) = IsSweepAt s place namespace moment keys freed
 CanChange s change = Unit {0}
+
+-- the change takes no memory: no record, no lease and no name comes, and no record goes
+abbrev pub wants_none : State → Change → Bool
+wants_none s Nothing = true
+wants_none s (Labels place key labels) = true
+wants_none s (Limit place n) = true
+wants_none s (LeaseName namespace lease name) = lease_names s.leases namespace lease name
+wants_none s (LeaseNameEnd namespace lease name) = true
+wants_none s (LeaseEnd namespace lease) = true
+wants_none s (Sweep place namespace moment keys freed) = length keys == 0
+wants_none s change = false

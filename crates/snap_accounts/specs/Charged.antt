@@ -1,5 +1,4 @@
 -- An open slot and the share in its writer's hands.
--- Cited by invariants and private clauses alone.
 use Rattle.std.specs.Prelude.{◌≡◌, ℕ, ◌<◌, length}
 use Rattle.snap_usage.specs.Counted.{Covers}
 use Rattle.snap_ledger.specs.States.{ShareState, Meets}

@@ -1,5 +1,4 @@
 -- When an open snapshot can be committed.
--- Cited by `Accounts::check_commit`, `Accounts::commit`.
 use Rattle.std.specs.Prelude.{◌≡◌, ℕ, true, false, List, Option}
 use Rattle.snap_record.specs.Labels.{Bytes, Label}
 use Rattle.snap_call.specs.declared.state.State.{State}

@@ -1,5 +1,4 @@
 -- Which refusals and replies an entry can have, and which calls are plain.
--- Cited by `Accounts::plan`, `Accounts::check_commit`, `Accounts::vacancy` and others.
 use Rattle.snap_call.specs.declared.call.Call.{Call}
 use Rattle.snap_call.specs.declared.call.Call.TheVariants as calls
 use Rattle.snap_call.specs.declared.refusal.Refusal.{Refusal}

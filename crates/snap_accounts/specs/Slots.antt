@@ -1,5 +1,4 @@
 -- The charges of all slots, in a row.
--- Cited by invariants and private clauses alone.
 use Rattle.std.specs.Prelude.{◌≡◌, ℕ, ◌<◌, List, length, slice_index_or}
 use Rattle.snap_ledger.specs.States.{ChargeState, free_charge}
 use Rattle.snap_call.specs.Records.{max_slots}

@@ -1,5 +1,4 @@
 -- The totals by place.
--- Cited by `Accounts::check_commit`, `Accounts::commit`.
 use Rattle.std.specs.Prelude.{ℕ, List, Option, None, Some, slice_index_or}
 use Rattle.snap_usage.specs.declared.usage.Usage.{Usage}
 use Rattle.snap_usage.specs.Counted.{no_usage}

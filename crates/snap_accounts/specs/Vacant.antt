@@ -1,5 +1,4 @@
 -- Where a new snapshot can go.
--- Cited by `Accounts::plan`, `Accounts::carry_out`, `Accounts::vacancy` and others.
 use Rattle.std.specs.Prelude.{◌≡◌, ℕ, ◌<◌, ◌≤◌, true, false, None, length}
 use Rattle.snap_path.specs.Limits.{most_number}
 use Rattle.snap_usage.specs.Counted.{covers}

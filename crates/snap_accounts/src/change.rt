@@ -1,5 +1,5 @@
 // What a plain call answers, and what it changes.
-ghost use Rattle.std.specs.Prelude.{◌≡◌, ◌<◌, ◌^◌, ◌+◌, IfOk, IfErr, OnOk, OnErr, Some};
+ghost use Rattle.std.specs.Prelude.{◌≡◌, ◌<◌, ◌^◌, ◌+◌, IfOk, IfErr, IsOk, OnOk, OnErr, Some, true};
 ghost use Rattle.snap_layer.specs.Edits.{root_only};
 ghost use Rattle.std.specs.Option.{option_map_or};
 ghost use Rattle.snap_usage.specs.Counted.{no_usage};
@@ -9,7 +9,8 @@ ghost use Rattle.snap_call.specs.State.{or_empty};
 ghost use Rattle.snap_call.specs.Step.{added, refused, relabelled_at, remove, removed_at, step, update, update_record, prepare_view, viewed};
 ghost use Rattle.snap_call.specs.declared.call.Given.TheVariants.{Nothing};
 ghost use Rattle.snap_call.specs.declared.reply.Reply.TheVariants as replies;
-ghost use Rattle.snap_accounts.specs.Changes.{CanChange, IsNewView, IsUnused, changed_state};
+ghost use Rattle.snap_call.specs.declared.state.State.{State};
+ghost use Rattle.snap_accounts.specs.Changes.{CanChange, IsNewView, IsUnused, changed_state, wants_none};
 ghost use Rattle.snap_accounts.specs.Entries.{IsAsk, IsPlain, IsInEntry, IsRecorded};
 ghost use Rattle.snap_accounts.specs.Vacant.{IsSite};
 
@@ -82,7 +83,9 @@ pub enum Change {
 }
 
 // The most records that the change takes away.
-fn removals(change: &Change) -> usize {
+fn removals(change: &Change) -> usize
+    ensures { (s : State) → wants_none s change.now ≡ true → result ≡ 0 }
+{
     match change {
         Change::Removal { .. } => 1,
         Change::Sweep { keys, .. } => keys.len(),
@@ -101,7 +104,7 @@ fn removals(change: &Change) -> usize {
 fn empty_layer(alloc: Global) -> Result<Shared, AllocError>
     ensures { IfOk result (λ layer. layer ≡ root_only 493 1) }
 {
-    match Shared::new(alloc, Layer::empty(alloc, DEFAULT_MODE)?) {
+    match Shared::new(Layer::empty(alloc, DEFAULT_MODE)?) {
         Ok(layer) => Ok(layer),
         Err((no_memory, _)) => Err(no_memory.into()),
     }
@@ -462,7 +465,7 @@ impl<N: StoreName> Accounts<N> {
     /// Makes the change, and counts an entry. The answer has the records that it took away, which the caller lets go.
     ///
     /// Takes memory for the place of a view, for a lease, for a name that is new to its lease, and for a list of the
-    /// records that it takes away; where that is refused, nothing changes. The cost grows with the logarithm
+    /// records that it takes away, and else none; where that is refused, nothing changes. The cost grows with the logarithm
     /// of the number of records; that of a call on a lease with the logarithms of the number of leases and of the
     /// number of names that the namespace's leases have, for a release once for each name of the lease, and for the drop
     /// of a name also with the number of the lease's names; that of a sweep with the leases and their names, for each
@@ -472,6 +475,9 @@ impl<N: StoreName> Accounts<N> {
         requires entries { self.old.entries < 2 ^ 63 }
         ensures done { OnOk result (self.new ≡ changed_state self.old change) }
         ensures open { OnOk result (open_count self.new.records ≡ open_count self.old.records) }
+
+        // Which changes are never refused memory.
+        ensures sure { wants_none self.old change ≡ true → IsOk result }
         ensures err { OnErr result (self.new ≡ self.old) }
     {
         let mut removed = Removed::with_room(alloc, removals(&change))?;

@@ -1,5 +1,5 @@
 // Limits of namespaces, and leases.
-ghost use Rattle.std.specs.Prelude.{◌≡◌, ◌<◌, ◌^◌, ◌+◌, ◌++◌, ◌∷◌, [], IfOk, IfErr, OnOk, OnErr, Option, ℕ, true, false};
+ghost use Rattle.std.specs.Prelude.{◌≡◌, ◌<◌, ◌^◌, ◌+◌, ◌++◌, ◌∷◌, [], IfOk, IfErr, IsOk, OnOk, OnErr, Option, ℕ, true, false};
 ghost use Rattle.snap_lease.specs.Lease.{empty_lease};
 ghost use Rattle.snap_lease.specs.Leases.{has_lease, lease_names, with_name_added, with_name_dropped, without_lease};
 ghost use Rattle.snap_call.specs.Records.{open_count};
@@ -293,6 +293,7 @@ impl<N: StoreName> Accounts<N> {
         requires entries { self.old.entries < 2 ^ 63 }
         ensures done { OnOk result (self.new ≡ leasing self.old (with_name_added self.old.leases namespace.now lease.now name.now)) }
         ensures open { OnOk result (open_count self.new.records ≡ open_count self.old.records) }
+        ensures sure { lease_names self.old.leases namespace.now lease.now name.now ≡ true → IsOk result }
         ensures err { OnErr result (self.new ≡ self.old) }
     {
         match self.state.leases.add(namespace, lease, name) {

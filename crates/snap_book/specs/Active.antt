@@ -1,5 +1,4 @@
 -- What clauses see of a snapshot in its writer's hands.
--- Cited by `Book::prepare`, `Book::prepare_within`, `replay_within` and others.
 use Rattle.std.specs.Prelude.{ℕ, List, [], ◌∷◌, Option, Some}
 use Rattle.snap_layer.specs.declared.node.Node.{Node}
 use Rattle.snap_layer.specs.declared.node.Node.TheVariants.{Dir}

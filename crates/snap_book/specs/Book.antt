@@ -1,5 +1,4 @@
 -- What holds of a book whenever no call is under way, and what a recorded call makes of it.
--- Cited by `Book::open_session`, `Book::take_entry`, `Book::records` and others.
 use Rattle.std.specs.Prelude.{◌≡◌, ℕ, ◌+◌, ◌≤◌, ◌^◌, List, [], ◌∷◌, ◌++◌, Option, None, Some, length, Result, Ok, Err}
 use Rattle.snap_usage.specs.declared.usage.Usage.{Usage}
 use Rattle.snap_record.specs.Labels.{Bytes}

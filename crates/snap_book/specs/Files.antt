@@ -1,5 +1,4 @@
 -- An operation on the layer of an open snapshot, which may fill its share and no more.
--- Cited by `Active::apply`, `replay_within`, `replay` and others.
 use Rattle.std.specs.Prelude.{List}
 use Rattle.snap_layer.specs.Tree.{Tree}
 use Rattle.snap_usage.specs.declared.usage.Usage.{Usage}

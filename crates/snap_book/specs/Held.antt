@@ -1,5 +1,4 @@
 -- What a snapshot that is given back holds.
--- Cited by `Held::release`, `Book::discard`, `Store::discard`.
 use Rattle.snap_ledger.specs.States.{ShareState}
 use Rattle.snap_book.specs.declared.active.Held.{Held}
 use Rattle.snap_book.specs.declared.active.Held.TheVariants.{Active, Sealed}

@@ -1,5 +1,4 @@
 -- What is asked of a book without an entry, beyond one record.
--- Cited by `Book::chain_usage`, `World::chain_usage`, `replay_within` and others.
 use Rattle.std.specs.Prelude.{List, [], ◌∷◌, Result, Ok}
 use Rattle.snap_usage.specs.declared.usage.Usage.{Usage}
 use Rattle.snap_usage.specs.Counted.{no_usage}

@@ -1,5 +1,4 @@
 -- The next round of a book.
--- Cited by `Book::next_round`, `Book::roll`, `replay_within` and others.
 use Rattle.std.specs.Prelude.{ℕ, ◌+◌, ◌^◌, nat_le, nat_lt, if◌then◌else◌, Result, Ok, Err}
 use Rattle.std.specs.Result.{result_and}
 use Rattle.snap_call.specs.declared.refusal.Refusal.{Refusal}

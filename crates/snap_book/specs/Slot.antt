@@ -1,5 +1,4 @@
 -- What is asked of a book without an entry.
--- Cited by `Book::record`, `Book::slot_of`, `Book::chain_usage` and others.
 use Rattle.std.specs.Prelude.{ℕ, Result, Ok, Err, ok_or}
 use Rattle.std.specs.Option.{option_map_or}
 use Rattle.snap_record.specs.Labels.{Bytes}

@@ -1,5 +1,4 @@
 -- How much a snapshot may be charged.
--- Cited by invariants and private clauses alone.
 use Rattle.std.specs.Prelude.{◌≡◌, ℕ, ◌≤◌, ◌^◌, List, Some}
 use Rattle.snap_record.specs.Labels.{Bytes}
 use Rattle.snap_record.specs.Records.{usage_of}

@@ -1,5 +1,4 @@
 -- What clauses see of a view in its reader's hands.
--- Cited by `Store::view`.
 use Rattle.std.specs.Prelude.{◌≡◌, ℕ, List}
 use Rattle.snap_layer.specs.Tree.{Tree}
 use Rattle.snap_record.specs.declared.record.Content.{Content}

@@ -1,5 +1,4 @@
 -- What an operation needs of a charge, and what is wanted beyond it.
--- Cited by `needed_by`, `wanted`, `replay_within` and others.
 use Rattle.std.specs.Prelude.{ℕ, ◌+◌, min, Option, Some, None}
 use Rattle.snap_usage.specs.declared.usage.Usage.{Usage}
 use Rattle.snap_merge.specs.declared.error.FsError.{FsError}

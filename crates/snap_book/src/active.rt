@@ -142,7 +142,6 @@ impl<N: StoreName> Active<N> {
         ensures count { result ≡ count_of self.now.layer }
         ensures one { CoversOne result }
     {
-        let _ = &self.layer.is_layer;
         count(&self.layer)
     }
 
@@ -169,7 +168,7 @@ impl<N: StoreName> Active<N> {
             share,
             discard_room,
         } = self;
-        match Shared::new(alloc, layer) {
+        match Shared::new(layer) {
             Ok(layer) => Ok(Sealed {
                 namespace,
                 key,

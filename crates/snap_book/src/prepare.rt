@@ -34,7 +34,6 @@ fn root_mode(alloc: Global, lowers: &[Shared]) -> u32
         return DEFAULT_MODE;
     };
     let layer = nearest.layer();
-    let _ = &layer.is_layer;
     match layer.at(&Path::root(alloc)) {
         Some(Node::Dir { mode, .. }) => mode,
         Some(Node::File { .. } | Node::Symlink { .. } | Node::Whiteout) | None => DEFAULT_MODE,

@@ -1,5 +1,4 @@
 -- What a caller in C gets of a script's run; cited by the public clauses of `pibroulez_run`.
--- Cited by `pibroulez_run`.
 use Rattle.std.specs.Prelude.{◌≡◌, ◌≤◌, ◌<◌, ℕ, Bool, true, false, List, [], ◌++◌, length, drop, Option, None, Some, Result, Ok, Err}
 use Rattle.snap_script.specs.declared.unknown.FieldRule.{FieldRule}
 use Rattle.snap_script.specs.declared.unknown.FieldRule.TheVariants.{Known, Any}

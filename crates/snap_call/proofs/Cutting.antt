@@ -2,8 +2,8 @@
 use Rattle.std.proofs.Common.{◌≡◌, ℕ, zero, suc, ◌+◌, ◌<◌, ◌≤◌, Bool, true, false, true≢false, List, [], ◌∷◌, length, drop, Option, Some, None, ◌⊎◌, inl, inr, refl, sym, ap, ◌∙◌, arith}
 use Rattle.std.specs.List.{AllByRecursion, list_all, list_any, find, starts_with}
 use Rattle.std.specs.Option.{option_map, option_map_or}
-use Rattle.std.specs.Prelude.{if◌then◌else◌, ◌&&◌, ◌||◌, ◌==◌, not, nat_eq, nat_lt, nat_le, bytes_eq, codes, is_some, slice_get, Err}
-use Rattle.std.proofs.lemmas.Bool.{and_parts, false_from_ne_true}
+use Rattle.std.specs.Prelude.{if◌then◌else◌, ◌&&◌, ◌||◌, ◌==◌, not, nat_eq, nat_lt, nat_le, bytes_eq, codes, is_some, Err}
+use Rattle.std.proofs.lemmas.Bool.{false_from_ne_true}
 use Rattle.std.proofs.lemmas.Bool.Decides.{nat_tests}
 use Rattle.std.proofs.lemmas.Slice.Eq.{bytes_eq-Decides}
 use Rattle.snap_layer.specs.Tree.{Tree}
@@ -26,11 +26,12 @@ use Rattle.snap_call.specs.declared.reply.Reply.TheVariants.{Info, Page, Usage a
 use Rattle.snap_call.specs.declared.state.State.{State}
 use Rattle.snap_call.specs.Forms.{is_key, is_parent, is_start, is_page, is_limit}
 use Rattle.snap_call.specs.Good.{HasShortNames}
-use Rattle.snap_call.specs.Kept.{is_short_name, kept}
-use Rattle.snap_call.specs.Records.{active_at, has_key, record_at, info_page, with_labels}
+use Rattle.snap_call.specs.Kept.{has_namespace, has_snapshot, kept, kept_change, kept_new}
+use Rattle.snap_call.specs.Records.{active_at, has_key, is_named, record_at, info_page, with_labels}
 use Rattle.snap_call.specs.State.{place_of}
 use Rattle.snap_call.specs.Step.{are_formed, at_record, commit, commit_as, committed, counted, has_named, in_namespace, lease_add_record, lease_create_at, lease_drop_at, lease_release_at, mounts, place_for, place_on, prepare_at, refused, relabelled_at, remove_record, set_limit_at, step, sweep_at, unless_refused, update_record, view_at}
 use Rattle.snap_call.proofs.Leasing.{position-past}
+use Rattle.snap_call.proofs.Indexed.{any-found_some}
 use Rattle.snap_call.proofs.Lists.{find-passes, found-any}
 
 -- ---- a text that is cut, or stays
@@ -213,6 +214,11 @@ name_stays s short name = by (nat_le (length name) 255) refl
         let high : 255 < length name = grind (arith, nat_tests) in
         inr (unplaced name high s.namespaces short, unplaced (cut 255 name) (cut_above 255 name high) s.namespaces short)
 
+-- nothing is there
+none_of : {A : Type 0} (o : Option A) → is_some o ≡ false → o ≡ None
+none_of None e = refl
+none_of (Some a) e = absurd (true≢false e)
+
 -- ---- calls
 
 module _ (s : State) (short : HasShortNames s) where
@@ -266,6 +272,32 @@ module _ (s : State) (short : HasShortNames s) where
           ap (λ b. unless_refused s (if b then option_map_or (λ place. place_on place (cut 1024 key) (cut 1024 parent) s.records) (place_of name s.namespaces) (Err NoNamespace) else Err BadArgument) (next (cut 1024 key) (cut 1024 parent) (kept_labels labels))) e.1
           ∙ sym (ap (λ b. unless_refused s (if b then option_map_or (λ place. place_on place key parent s.records) (place_of name s.namespaces) (Err NoNamespace) else Err BadArgument) (next key parent labels)) e.0)
 
+  -- whose labels go without its namespace
+  made_new : (name key parent : Bytes) (labels : List Label) (next : Bytes → Bytes → List Label → ℕ → State × Reply)
+      → unless_refused s (place_for s (cut 255 name) (cut 1024 key) (cut 1024 parent) (kept_new (has_namespace s name) labels)) (next (cut 1024 key) (cut 1024 parent) (kept_new (has_namespace s name) labels))
+      ≡ unless_refused s (place_for s name key parent labels) (next key parent labels)
+  made_new name key parent labels next = by (has_namespace s name) (are_labels labels) refl refl
+    where
+      after : List Label → State × Reply
+      after given = unless_refused s (place_for s (cut 255 name) (cut 1024 key) (cut 1024 parent) given) (next (cut 1024 key) (cut 1024 parent) given)
+
+      out : (given : List Label) → place_of name s.namespaces ≡ None → are_labels given ≡ true → unless_refused s (place_for s name key parent given) (next key parent given) ≡ refused s (if is_key key && is_parent parent && true then NoNamespace else BadArgument)
+      out given none are =
+          ap (λ o. unless_refused s (if is_key key && is_parent parent && are_labels given then option_map_or (λ place. place_on place key parent s.records) o (Err NoNamespace) else Err BadArgument) (next key parent given)) none
+          ∙ (ap (λ b. unless_refused s (if is_key key && is_parent parent && b then Err NoNamespace else Err BadArgument) (next key parent given)) are
+          ∙ either (is_key key && is_parent parent && true))
+        where
+          either : (b : Bool) → unless_refused s (if b then Err NoNamespace else Err BadArgument) (next key parent given) ≡ refused s (if b then NoNamespace else BadArgument)
+          either true = refl
+          either false = refl
+
+      by : (there are : Bool) → has_namespace s name ≡ there → are_labels labels ≡ are → after (if there || not are then kept_labels labels else []) ≡ unless_refused s (place_for s name key parent labels) (next key parent labels)
+      by true are e f = made name key parent labels next
+      by false false e f = made name key parent labels next
+      by false true e f =
+          let none : place_of name s.namespaces ≡ None = none_of (place_of name s.namespaces) e in
+          made name key parent [] next ∙ (out [] none refl ∙ sym (out labels none f))
+
   -- a commit
   committed_alike : (slot : ℕ) (name : Bytes) (lease : Option Bytes) (labels : Option (List Label)) (layer : Tree) (o : Option Record)
       → commit_as s slot (cut 1024 name) (option_map (cut 1024) lease) (option_map kept_labels labels) layer o ≡ commit_as s slot name lease labels layer o
@@ -284,12 +316,6 @@ module _ (s : State) (short : HasShortNames s) where
   commit_alike slot name lease labels Nothing = refl
   commit_alike slot name lease labels (Count now) = refl
 
-  -- a namespace with too long a name
-  placeless : (name : Bytes) → is_short_name name ≡ false → (next : ℕ → State × Reply) → in_namespace s name next ≡ refused s NoNamespace
-  placeless name e next =
-      let long : 255 < length name = grind (arith, nat_tests) in
-      ap (λ o. option_map_or next o (refused s NoNamespace)) (unplaced name long s.namespaces short)
-
   -- an update
   abbrev looked : Bytes → Bytes → List Label × List Bytes → State × Reply
   looked name key given = step s (calls.Update name key given.0 given.1) Nothing
@@ -301,21 +327,18 @@ module _ (s : State) (short : HasShortNames s) where
   malformed name key given e =
       ap (λ b. if b then at_record s name key (update_record s key given.0 given.1) else refused s BadArgument) (out_right (is_key key) (formed given) e)
 
-  -- which isn't looked for
-  unsought : (name key : Bytes) (given : List Label × List Bytes) → (is_short_name name && is_key key) ≡ false → formed given ≡ true → looked name key given ≡ (if is_key key then refused s NoNamespace else refused s BadArgument)
-  unsought name key given out is = by (is_key key) (is_short_name name) refl refl
+  -- of a snapshot that isn't there
+  absent : (name key : Bytes) (next : ℕ → Record → State × Reply) → has_snapshot s name key ≡ false → at_record s name key next ≡ in_namespace s name (λ place. refused s NotFound)
+  absent name key next none = by (place_of name s.namespaces) none
     where
-      found : State × Reply
-      found = at_record s name key (update_record s key given.0 given.1)
+      by : (o : Option ℕ) → option_map_or (λ place. has_key place key s.records) o false ≡ false → option_map_or (λ place. option_map_or (next place) (record_at place key s.records) (refused s NotFound)) o (refused s NoNamespace) ≡ option_map_or (λ place. refused s NotFound) o (refused s NoNamespace)
+      by None e = refl
+      by (Some place) e = ap (λ r. option_map_or (next place) r (refused s NotFound)) (none_of (record_at place key s.records) (sym (any-found_some (is_named place key) s.records) ∙ e))
 
-      by : (k n : Bool) → is_key key ≡ k → is_short_name name ≡ n → looked name key given ≡ (if is_key key then refused s NoNamespace else refused s BadArgument)
-      by false n e f = ap (λ k. if k && formed given then found else refused s BadArgument) e ∙ sym (ap (λ k. if k then refused s NoNamespace else refused s BadArgument) e)
-      by true true e f = absurd (true≢false (sym (ap (λ k. is_short_name name && k) e ∙ ap (λ n. n && true) f) ∙ out))
-      by true false e f =
-          ap (λ k. if k && formed given then found else refused s BadArgument) e
-          ∙ (ap (λ w. if w then found else refused s BadArgument) is
-          ∙ (placeless name f (λ place. option_map_or (update_record s key given.0 given.1 place) (record_at place key s.records) (refused s NotFound))
-          ∙ sym (ap (λ k. if k then refused s NoNamespace else refused s BadArgument) e)))
+  unsought : (name key : Bytes) (given : List Label × List Bytes) → has_snapshot s name key ≡ false → formed given ≡ true → looked name key given ≡ (if is_key key && true then in_namespace s name (λ place. refused s NotFound) else refused s BadArgument)
+  unsought name key given none is =
+      ap (λ w. if is_key key && w then at_record s name key (update_record s key given.0 given.1) else refused s BadArgument) is
+      ∙ ap (λ x. if is_key key && true then x else refused s BadArgument) (absent name key (update_record s key given.0 given.1) none)
 
   -- which replaces all
   abbrev whole_at : Bytes → Bytes → List Label → Bool → Bool → List Bytes → State × Reply
@@ -334,27 +357,14 @@ module _ (s : State) (short : HasShortNames s) where
       ∙ (ap (λ f. whole_at name key labels f true (named_keys qs)) same
       ∙ sym (ap (λ b. whole_at name key labels (list_all is_update_path qs) b (named_keys qs)) both))
 
-  -- whose labels and paths have their forms
-  formed_update : (name key : Bytes) (labels : List Label) (paths : List Bytes) → list_all is_label labels ≡ true → list_all is_update_path paths ≡ true
-      → looked name key (if replaces_all paths then (labels, option_map_or cut_path (find is_whole paths) []) else if is_short_name name && is_key key then (labels, paths) else ([], option_map_or cut_path (slice_get paths 0) [])) ≡ looked name key (labels, paths)
-  formed_update name key labels [] are each = refl
-  formed_update name key labels (p ∷ ps) are each = by (list_any is_whole (p ∷ ps)) refl
+  -- whose paths have their forms
+  formed_update : (name key : Bytes) (labels : List Label) (paths : List Bytes) → list_all is_update_path paths ≡ true
+      → looked name key (if replaces_all paths then (labels, option_map_or cut_path (find is_whole paths) []) else (labels, paths)) ≡ looked name key (labels, paths)
+  formed_update name key labels [] each = refl
+  formed_update name key labels (p ∷ ps) each = by (list_any is_whole (p ∷ ps)) refl
     where
       paths : List Bytes
       paths = p ∷ ps
-
-      by_sought : (b : Bool) → (is_short_name name && is_key key) ≡ b → list_any is_whole paths ≡ false → looked name key (if b then (labels, paths) else ([], cut_path p)) ≡ looked name key (labels, paths)
-      by_sought true e none = refl
-      by_sought false e none =
-          let first : is_update_path p ≡ true = (and_parts (is_update_path p) (list_all is_update_path ps) each).0 in
-          let one : formed ([], cut_path p) ≡ true =
-          ap (λ f. (true && (f && true)) && (if is_whole (cut 4103 p) || false then true else true)) ((path_alike p).1 ∙ first)
-          ∙ elim (is_whole (cut 4103 p)) as (λ w. (if w || false then true else true) ≡ true) [ true ↦ refl | false ↦ refl ] in
-          let all : formed (labels, paths) ≡ true =
-          ap (λ f. (f && list_all is_update_path paths) && (if list_any is_whole paths then nat_le (length labels) 64 else true)) are
-          ∙ (ap (λ f. f && (if list_any is_whole paths then nat_le (length labels) 64 else true)) each
-          ∙ ap (λ w. if w then nat_le (length labels) 64 else true) none) in
-          unsought name key ([], cut_path p) e one ∙ sym (unsought name key (labels, paths) e all)
 
       by_found : (o : Option Bytes) → find is_whole paths ≡ o → list_any is_whole paths ≡ true → looked name key (labels, option_map_or cut_path o []) ≡ looked name key (labels, paths)
       by_found None e some = let found = found-any is_whole paths some in absurd (let bad : ◌≡◌ {A = Option Bytes} None (Some found.0) = sym e ∙ found.1 in cc)
@@ -366,32 +376,37 @@ module _ (s : State) (short : HasShortNames s) where
           (ap (λ w. w || false) ((path_alike q).0 ∙ whole))
           some
 
-      by : (b : Bool) → list_any is_whole paths ≡ b → looked name key (if b then (labels, option_map_or cut_path (find is_whole paths) []) else if is_short_name name && is_key key then (labels, paths) else ([], cut_path p)) ≡ looked name key (labels, paths)
+      by : (b : Bool) → list_any is_whole paths ≡ b → looked name key (if b then (labels, option_map_or cut_path (find is_whole paths) []) else (labels, paths)) ≡ looked name key (labels, paths)
       by true e = by_found (find is_whole paths) refl e
-      by false e = by_sought (is_short_name name && is_key key) refl e
+      by false e = refl
 
-  kept_alike : (name key : Bytes) (labels : List Label) (paths : List Bytes) → looked name key (kept_update (is_short_name name && is_key key) labels paths) ≡ looked name key (labels, paths)
+  kept_alike : (name key : Bytes) (labels : List Label) (paths : List Bytes) → looked name key (kept_update labels paths) ≡ looked name key (labels, paths)
   kept_alike name key labels paths = by (list_all is_label labels) refl
     where
-      sought : Bool
-      sought = is_short_name name && is_key key
-
       many : List Label → List Bytes → Bool
       many given named = if replaces_all named then nat_le (length given) 64 else true
 
-      by_path : (o : Option Bytes) → find (λ p. not (is_update_path p)) paths ≡ o → list_all is_label labels ≡ true
-          → looked name key (option_map_or (λ p. ([], cut_path p)) o (if replaces_all paths then (labels, option_map_or cut_path (find is_whole paths) []) else if sought then (labels, paths) else ([], option_map_or cut_path (slice_get paths 0) []))) ≡ looked name key (labels, paths)
-      by_path None e are = formed_update name key labels paths are (none_malformed is_update_path paths e)
-      by_path (Some p) e are =
+      by_path : (o : Option Bytes) → find (λ p. not (is_update_path p)) paths ≡ o
+          → looked name key (option_map_or (λ p. ([], cut_path p)) o (if replaces_all paths then (labels, option_map_or cut_path (find is_whole paths) []) else (labels, paths))) ≡ looked name key (labels, paths)
+      by_path None e = formed_update name key labels paths (none_malformed is_update_path paths e)
+      by_path (Some p) e =
           let found = malformed_found is_update_path paths p e in
           malformed name key ([], cut_path p) (ap (λ f. (true && (f && true)) && many [] (cut_path p)) ((path_alike p).1 ∙ found.1))
           ∙ sym (malformed name key (labels, paths) (ap (λ f. (list_all is_label labels && f) && many labels paths) found.0 ∙ ap (λ f. f && many labels paths) (out_right (list_all is_label labels) false refl)))
 
-      by : (b : Bool) → list_all is_label labels ≡ b → looked name key (if b then kept_by_paths sought labels paths else (kept_labels labels, [])) ≡ looked name key (labels, paths)
-      by true e = by_path (find (λ p. not (is_update_path p)) paths) refl e
+      by : (b : Bool) → list_all is_label labels ≡ b → looked name key (if b then kept_by_paths labels paths else (kept_labels labels, [])) ≡ looked name key (labels, paths)
+      by true e = by_path (find (λ p. not (is_update_path p)) paths) refl
       by false e =
           malformed name key (kept_labels labels, []) (ap (λ f. (f && true) && nat_le (length (kept_labels labels)) 64) (labels_malformed labels e))
           ∙ sym (malformed name key (labels, paths) (ap (λ f. (f && list_all is_update_path paths) && many labels paths) e))
+
+  change_alike : (name key : Bytes) (labels : List Label) (paths : List Bytes) → looked name key (kept_change (has_snapshot s name key) labels paths) ≡ looked name key (labels, paths)
+  change_alike name key labels paths = by (has_snapshot s name key) (is_well_formed labels paths) refl refl
+    where
+      by : (there formed : Bool) → has_snapshot s name key ≡ there → is_well_formed labels paths ≡ formed → looked name key (if there || not formed then kept_update labels paths else ([], [])) ≡ looked name key (labels, paths)
+      by true w e f = kept_alike name key labels paths
+      by false false e f = kept_alike name key labels paths
+      by false true e f = unsought name key ([], []) e refl ∙ sym (unsought name key (labels, paths) e f)
 
   updated_alike : (name key : Bytes) (given : List Label × List Bytes) → looked (cut 255 name) (cut 1024 key) given ≡ looked name key given
   updated_alike name key given =
@@ -409,24 +424,26 @@ module _ (s : State) (short : HasShortNames s) where
 
   -- whose filter isn't looked at
   asked_alike : (name after : Bytes) (most : ℕ) (asked : Filter)
-      → step s (calls.Walk name after most (if is_start after && is_page most && is_short_name name then asked else no_filter)) Nothing ≡ step s (calls.Walk name after most asked) Nothing
-  asked_alike name after most asked = by (is_start after && is_page most) (is_short_name name) refl refl
+      → step s (calls.Walk name after most (if is_start after && is_page most && has_namespace s name then asked else no_filter)) Nothing ≡ step s (calls.Walk name after most asked) Nothing
+  asked_alike name after most asked = by (is_start after && is_page most) (has_namespace s name) refl refl
     where
-      pages : Filter → ℕ → State × Reply
-      pages filter place = (counted s, Page (info_page place after most filter s.records))
-
       paged : Filter → State × Reply
-      paged filter = in_namespace s name (pages filter)
+      paged filter = in_namespace s name (λ place. (counted s, Page (info_page place after most filter s.records)))
 
-      by : (b n : Bool) → (is_start after && is_page most) ≡ b → is_short_name name ≡ n → step s (calls.Walk name after most (if b && n then asked else no_filter)) Nothing ≡ step s (calls.Walk name after most asked) Nothing
+      out : place_of name s.namespaces ≡ None → (filter : Filter) → paged filter ≡ refused s NoNamespace
+      out none filter = ap (λ o. option_map_or (λ place. (counted s, Page (info_page place after most filter s.records))) o (refused s NoNamespace)) none
+
+      by : (b n : Bool) → (is_start after && is_page most) ≡ b → has_namespace s name ≡ n → step s (calls.Walk name after most (if b && n then asked else no_filter)) Nothing ≡ step s (calls.Walk name after most asked) Nothing
       by true true e f = refl
-      by true false e f = ap (λ x. if is_start after && is_page most then x else refused s BadArgument) (placeless name f (pages no_filter) ∙ sym (placeless name f (pages asked)))
+      by true false e f =
+          let none : place_of name s.namespaces ≡ None = none_of (place_of name s.namespaces) f in
+          ap (λ x. if is_start after && is_page most then x else refused s BadArgument) (out none no_filter ∙ sym (out none asked))
       by false n e f = ap (λ b. if b then paged no_filter else refused s BadArgument) e ∙ sym (ap (λ b. if b then paged asked else refused s BadArgument) e)
 
   -- each call
-  pub step_kept : (call : Call) (given : Given) → step s (kept call) given ≡ step s call given
+  pub step_kept : (call : Call) (given : Given) → step s (kept s call) given ≡ step s call given
   step_kept calls.Session given = refl
-  step_kept (calls.Prepare namespace key parent labels) given = made namespace key parent labels (prepare_at s)
+  step_kept (calls.Prepare namespace key parent labels) given = made_new namespace key parent labels (prepare_at s)
   step_kept (calls.Charge slot id need want) given = refl
   step_kept (calls.Trim slot id) given = refl
   step_kept (calls.Commit slot id name lease labels) given = commit_alike slot name lease labels given
@@ -434,12 +451,12 @@ module _ (s : State) (short : HasShortNames s) where
   step_kept (calls.Stat namespace key) given = on_key namespace key (λ n k place. option_map_or (λ r. (counted s, Info (info_of r))) (record_at place k s.records) (refused s NotFound))
   step_kept (calls.Usage namespace key) given = on_key namespace key (λ n k place. option_map_or (λ r. (counted s, UsageReply (usage_of r.content))) (record_at place k s.records) (refused s NotFound))
   step_kept (calls.Mounts namespace key) given = on_key namespace key (λ n k place. option_map_or (λ r. (counted s, mounts s r)) (record_at place k s.records) (refused s NotFound))
-  step_kept (calls.View namespace key parent labels) given = made namespace key parent labels (view_at s)
+  step_kept (calls.View namespace key parent labels) given = made_new namespace key parent labels (view_at s)
   step_kept (calls.Remove namespace key) given = on_key namespace key (λ n k place. option_map_or (remove_record s n k place) (record_at place k s.records) (refused s NotFound))
   step_kept (calls.Update namespace key labels paths) given =
-      updated_alike namespace key (kept_update (is_short_name namespace && is_key key) labels paths) ∙ kept_alike namespace key labels paths
+      updated_alike namespace key (kept_change (has_snapshot s namespace key) labels paths) ∙ change_alike namespace key labels paths
   step_kept (calls.Walk namespace after most asked) given =
-      walked_alike namespace after most (if is_start after && is_page most && is_short_name namespace then asked else no_filter) ∙ asked_alike namespace after most asked
+      walked_alike namespace after most (if is_start after && is_page most && has_namespace s namespace then asked else no_filter) ∙ asked_alike namespace after most asked
   step_kept (calls.SetLimit namespace limit) given = ap (λ x. if is_limit limit then x else refused s BadArgument) (in_same namespace (λ n. set_limit_at s limit))
   step_kept (calls.LeaseCreate namespace lease until) given = on_key namespace lease (λ n l place. lease_create_at s n l until)
   step_kept (calls.LeaseAdd namespace lease name) given = on_keys namespace lease name (λ n l k place. option_map_or (lease_add_record s n l k) (record_at place k s.records) (refused s NotFound))

@@ -27,6 +27,7 @@ pub mod Kept
 pub mod Promising
 pub mod Cutting
 pub mod Counts
+mod Stepping
 pub mod Replaying
 pub mod AsMany
 pub mod Totals

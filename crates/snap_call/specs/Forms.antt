@@ -1,5 +1,4 @@
 -- The forms that texts, limits and configurations must have.
--- Cited by `Config::is_valid`, `is_key`, `is_parent` and others.
 use Rattle.std.specs.Prelude.{ℕ, ◌==◌, Bool, true, not, ◌&&◌, nat_le, List, [], ◌∷◌, length, bytes_eq, Option, find}
 use Rattle.std.specs.List.{list_any, list_all}
 use Rattle.snap_layer.specs.Counts.{most_inodes}

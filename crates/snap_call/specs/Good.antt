@@ -1,5 +1,4 @@
 -- What is true of the state whenever no call is under way.
--- Cited by `State::opening`, `State::commit`, `State::plan_sweep` and others.
 use Rattle.std.specs.Prelude.{◌≡◌, ◌≢◌, ℕ, ◌<◌, ◌≤◌, true, List, IsSome, IsSomeAnd, length}
 use Rattle.std.specs.List.{AllByRecursion}
 use Rattle.std.specs.List.Sorted.{IsStrictlySortedBy}

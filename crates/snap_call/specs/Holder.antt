@@ -1,5 +1,4 @@
 -- What clauses see of an entry in the hands of its holders.
--- Cited by invariants and private clauses alone.
 use Rattle.std.specs.Arc.{arc_value}
 use Rattle.snap_call.specs.declared.entry.Entry.{Entry}
 use Rattle.snap_call.specs.declared.shared_entry.Holder.{Holder}

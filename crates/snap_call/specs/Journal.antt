@@ -1,5 +1,4 @@
 -- The journal: the calls that were recorded, and what they made of the state.
--- Cited by `Book::open_session`, `Book::records`, `Book::charge` and others.
 use Rattle.std.specs.Prelude.{◌≡◌, ℕ, ◌==◌, List, [], ◌∷◌, filter}
 use Rattle.snap_call.specs.declared.call.Call.{Call}
 use Rattle.snap_call.specs.declared.call.Given.{Given}

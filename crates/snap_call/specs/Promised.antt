@@ -1,5 +1,4 @@
 -- What a store promises of its snapshots whenever no call is under way. `Good` is what a step needs besides to keep it.
--- Cited by `State::opening`.
 use Rattle.std.specs.Prelude.{◌≡◌, ℕ, ◌<◌, true, IsSome, length}
 use Rattle.std.specs.List.{AllByRecursion}
 use Rattle.snap_usage.specs.Counted.{Covers}

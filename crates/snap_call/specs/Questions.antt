@@ -1,5 +1,4 @@
 -- What is asked without an entry: what the call that asks it would reply.
--- Cited by `Question::into_call`, `Accounts::answer`, `Book::answer` and others.
 use Rattle.snap_call.specs.declared.call.Call.{Call}
 use Rattle.snap_call.specs.declared.call.Call.TheVariants as calls
 use Rattle.snap_call.specs.declared.call.Given.TheVariants.{Nothing}

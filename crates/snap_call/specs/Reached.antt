@@ -1,5 +1,4 @@
 -- Which snapshots a sweep takes away: the committed ones that nothing in use stands on (mark and sweep, as containerd's garbage collection of what no lease keeps).
--- Cited by `Call::cut`, `State::opening`, `State::plan_sweep` and others.
 use Rattle.std.specs.Prelude.{ℕ, ◌==◌, Bool, not, ◌&&◌, ◌||◌, List, map, filter, bytes_eq}
 use Rattle.std.specs.List.{list_any}
 use Rattle.snap_lease.specs.Leases.{is_guarded_at}

@@ -1,5 +1,4 @@
 -- Records as a list, in order of their namespaces' places and of the bytes of their keys.
--- Cited by `Records::committed_at`, `Records::is_present`, `Records::is_base` and others.
 use Rattle.std.specs.Prelude.{◌≡◌, ℕ, ◌<◌, zero, suc, ◌==◌, Bool, true, false, ◌&&◌, List, [], ◌∷◌, map, filter, take, Option, None, Some, find, bytes_eq, option_and_then, unwrap_or, count_by, length, if◌then◌else◌}
 use Rattle.std.specs.declared.cmp.Ordering.{Ordering}
 use Rattle.std.specs.Ordering.{nat_cmp, ordering_then, is_lt}

@@ -1,5 +1,4 @@
 -- What follows a result.
--- Cited by `Book::chain_usage`, `World::stack` and others.
 use Rattle.std.specs.Prelude.{Result, Ok, Err}
 
 -- what follows a value; an error ends. A `do` block is made of these: an action `← a` in it stands for the value of a, and is taken before what it stands in.

@@ -1,5 +1,4 @@
 -- The state of a store.
--- Cited by `Records::is_present`, `Records::is_base`, `Records::is_too_deep` and others.
 use Rattle.std.specs.Prelude.{ℕ, zero, suc, Bool, true, List, [], ◌∷◌, Option, None, Some, option_and_then, unwrap_or, position, slice_get, map, filter_map, not, bytes_eq}
 use Rattle.std.specs.Option.{option_map, option_map_or, is_some}
 use Rattle.snap_layer.specs.Edits.{root_only}

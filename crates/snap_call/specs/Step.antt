@@ -1,5 +1,4 @@
 -- What one call answers, and the state after it. The cases of each call stand in the order in which its refusals are tested.
--- Cited by `State::opening`, `State::has_named`, `State::commit` and others.
 use Rattle.std.specs.Prelude.{◌≡◌, ℕ, ◌+◌, ◌<◌, Bool, true, not, ◌&&◌, nat_le, nat_lt, if◌then◌else◌, List, [], ◌∷◌, ◌++◌, count_by, Option, None, Some, IsSomeAnd, max, Result, Ok, Err}
 use Rattle.std.specs.Option.{option_map_or}
 use Rattle.snap_path.specs.Limits.{most_number}

@@ -1,5 +1,4 @@
 -- What a namespace's charge is the sum of.
--- Cited by `Book::totals`, `Store::close`, `Closed::totals` and others.
 use Rattle.snap_usage.specs.declared.usage.Usage.{Usage}
 use Rattle.snap_usage.specs.Counted.{count_of, no_usage}
 use Rattle.snap_record.specs.declared.record.Content.{Content}

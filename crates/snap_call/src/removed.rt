@@ -1,3 +1,5 @@
+ghost use Rattle.std.specs.Prelude.{◌≡◌, IsOk};
+
 use snap_record::Record;
 use std::alloc::{AllocError, Global};
 use std::marker::Model;
@@ -32,7 +34,9 @@ impl Removed {
 
     /// No records, and room for so many. Takes memory for them without their texts and layers, and none where it is
     /// for 0 records.
-    pub fn with_room(alloc: Global, count: usize) -> Result<Removed, AllocError> {
+    pub fn with_room(alloc: Global, count: usize) -> Result<Removed, AllocError>
+        ensures sure { count ≡ 0 → IsOk result }
+    {
         Ok(Removed {
             records: Vec::with_capacity(alloc, count)?,
         })

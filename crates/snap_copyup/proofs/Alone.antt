@@ -11,7 +11,7 @@ use Rattle.snap_layer.specs.Layers.{IsLayer, IsFile, IsSymlink}
 use Rattle.snap_layer.specs.Edits.{IsFree}
 use Rattle.snap_merge.specs.declared.error.FsError.{FsError}
 use Rattle.snap_merge.specs.Objects.{Object, dir, file, symlink, seen, seen_over, shown_body, is_shown_dir}
-use Rattle.snap_merge.specs.Walk.{walk_on, walk_from, walk}
+use Rattle.snap_merge.specs.Walk.{walk_on, walk_from, walk_error}
 use Rattle.snap_copyup.specs.Copying.{below, copied, with_object, with_parents_from, with_parents}
 
 no_bool : true ≡ false → ⊥
@@ -29,6 +29,17 @@ walk_passes (Some (symlink t)) later e = absurd (cc)
 -- without a node in the layer, what is below is seen
 pub below_seen : (u : Tree) (ls : List Tree) (p : Names) → at u p ≡ None → seen (u ∷ ls) p ≡ below u ls p
 below_seen u ls p none = ap (λ (o : Option Node). seen_over u o p (seen ls p)) none
+
+-- and where that is a directory, the layer doesn't hide it
+pub below_unhidden : (u : Tree) (ls : List Tree) (p : Names) → at u p ≡ None → is_shown_dir (seen (u ∷ ls) p) ≡ true → seen ls p ≡ below u ls p
+below_unhidden u ls p none is = by (hides u p) refl
+  where
+    was : is_shown_dir (cond (hides u p) None (seen ls p)) ≡ true
+    was = ap is_shown_dir (sym (below_seen u ls p none)) ∙ is
+
+    by : (h : Bool) → hides u p ≡ h → seen ls p ≡ cond (hides u p) None (seen ls p)
+    by true e = absurd (no_bool (sym was ∙ ap (λ b. is_shown_dir (cond b None (seen ls p))) e))
+    by false e = sym (ap (λ b. cond b None (seen ls p)) e)
 
 -- where the layer has a node nothing is copied
 pub copied_there : (u : Tree) (ls : List Tree) (p : Names) → is_some (at u p) ≡ true → copied u ls p ≡ u
@@ -121,7 +132,7 @@ module _ (u : Tree) where
       ap (λ (v : Tree). with_parents_from v [] (front ++ n ∷ []) rest) (copied_there u [] front (some_dir (at u front) (dir_there front passes.0)))
       ∙ no_parents_from (front ++ n ∷ []) rest passes.1
 
-  pub no_parents : (p : Names) → walk (u ∷ []) p ≡ None → with_parents u [] p ≡ u
+  pub no_parents : (p : Names) → walk_error (u ∷ []) p ≡ None → with_parents u [] p ≡ u
   no_parents p way = no_parents_from [] p way
 
 -- ---- results

@@ -5,7 +5,7 @@ use Rattle.snap_path.specs.Text.{Names}
 use Rattle.snap_layer.specs.Tree.{Tree, at}
 use Rattle.snap_layer.specs.Layers.{IsLayer}
 use Rattle.snap_layer.proofs.Paths.{split_front}
-use Rattle.snap_merge.specs.Walk.{walk}
+use Rattle.snap_merge.specs.Walk.{walk_error}
 use Rattle.snap_merge.proofs.Views.{walk_same}
 use Rattle.snap_copyup.specs.Copying.{with_parents}
 use Rattle.snap_copyup.specs.Places.{TakesMore}
@@ -38,7 +38,7 @@ cut : (p : Names) (k : ℕ) → k < length p → (n : List ℕ) × (r : Names) �
 cut p k less = (get_or p k [], drop (k + 1) p, sym (take-append-drop k p) ∙ at_drop_more (λ (r : Names). take k p ++ r) p k [] less)
 
 -- k names are shared by both paths and not one more, and s is the least number of names with which a front of q is not above p
-module _ (u : Tree) (ls : List Tree) (p q : Names) (ok : IsLayer u) (way_p : walk (u ∷ ls) p ≡ None) (way_q : walk (u ∷ ls) q ≡ None) (k s : ℕ) (within : k ≤ length p) (same : take k p ≡ take k q) (most : k < length p → k < length q → take (k + 1) p ≡ take (k + 1) q → ⊥) (least : s ≡ min (length p) (k + 1)) where
+module _ (u : Tree) (ls : List Tree) (p q : Names) (ok : IsLayer u) (way_p : walk_error (u ∷ ls) p ≡ None) (way_q : walk_error (u ∷ ls) q ≡ None) (k s : ℕ) (within : k ≤ length p) (same : take k p ≡ take k q) (most : k < length p → k < length q → take (k + 1) p ≡ take (k + 1) q → ⊥) (least : s ≡ min (length p) (k + 1)) where
   abbrev v : Tree
   v = with_parents u ls p
 

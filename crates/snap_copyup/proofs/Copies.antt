@@ -17,7 +17,7 @@ use Rattle.snap_layer.proofs.Paths.{split_front}
 use Rattle.snap_layer.proofs.Kept.{has_body, free_has_no_number, free_is_no_dir, nothing_below}
 use Rattle.snap_layer.proofs.Laws.{Replaces, Replaces-with_new, SetsBody-with_new}
 use Rattle.snap_merge.specs.Objects.{Object, dir, file, symlink, seen, shown_body, is_shown_dir, AreLayers}
-use Rattle.snap_merge.specs.Walk.{walk}
+use Rattle.snap_merge.specs.Walk.{walk_error}
 use Rattle.snap_merge.proofs.Views.{seen_node}
 use Rattle.snap_merge.proofs.Above.{nothing_seen}
 use Rattle.snap_copyup.specs.Copying.{below, with_object, with_parents, copied_up}
@@ -87,7 +87,7 @@ same_object t p (Some (dir mode)) = refl
 same_object t p (Some (file mode content)) = refl
 same_object t p (Some (symlink target)) = refl
 
-module _ (u : Tree) (ls : List Tree) (p : Names) (way : walk (u ∷ ls) p ≡ None) where
+module _ (u : Tree) (ls : List Tree) (p : Names) (way : walk_error (u ∷ ls) p ≡ None) where
   abbrev t : Tree
   t = with_parents u ls p
 

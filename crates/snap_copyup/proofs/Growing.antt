@@ -22,7 +22,7 @@ use Rattle.snap_layer.proofs.Counting.{inodes_of, weight, dirs, inode_count-with
 use Rattle.snap_layer.proofs.Kept.{next_is_fresh, nothing_below}
 use Rattle.snap_layer.proofs.Laws.{sorted-with_entry}
 use Rattle.snap_merge.specs.Objects.{Object, dir, file, symlink, seen, is_shown_dir}
-use Rattle.snap_merge.specs.Walk.{walk, walk_from}
+use Rattle.snap_merge.specs.Walk.{walk_error, walk_from}
 use Rattle.snap_merge.proofs.Views.{walk_same}
 use Rattle.snap_copyup.specs.declared.parents.Last.{Last}
 use Rattle.snap_copyup.specs.declared.parents.Last.TheVariants.{Nothing, Dir, File, Symlink, Whiteout}
@@ -105,7 +105,7 @@ grows_from u ls front (n ∷ rest) sorted way =
     record { sorted = later.sorted; inodes = omega (arith, once.inodes, later.inodes, same); blocks = omega (arith, once.blocks, later.blocks, same); names = λ k. later.names k ∙ once.names k }
 
 -- the directories that a path lacks are those that are added
-pub takes_missing : (u : Tree) (ls : List Tree) (p : Names) → IsLayer u → walk (u ∷ ls) p ≡ None → TakesMore (missing_from u [] p) u (with_parents u ls p)
+pub takes_missing : (u : Tree) (ls : List Tree) (p : Names) → IsLayer u → walk_error (u ∷ ls) p ≡ None → TakesMore (missing_from u [] p) u (with_parents u ls p)
 takes_missing u ls p ok way = let grows = grows_from u ls [] p ok.sorted_paths way in (grows.inodes, grows.blocks)
 
 -- ---- a path has at most 4095 names

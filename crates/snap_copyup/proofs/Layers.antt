@@ -16,7 +16,7 @@ use Rattle.snap_layer.proofs.Kept.{IsLayer-with_entry, dir_above}
 use Rattle.snap_layer.proofs.Replacing.{with_node-free}
 use Rattle.snap_layer.proofs.Filling.{dir_becomes, whiteout_becomes, file_becomes, symlink_becomes}
 use Rattle.snap_merge.specs.Objects.{Object, dir, file, symlink, seen, is_shown_dir, AreLayers}
-use Rattle.snap_merge.specs.Walk.{walk, walk_from}
+use Rattle.snap_merge.specs.Walk.{walk_error, walk_from}
 use Rattle.snap_merge.proofs.Views.{walk_same}
 use Rattle.snap_copyup.specs.declared.parents.Last.{Last}
 use Rattle.snap_copyup.specs.declared.parents.Last.TheVariants.{Nothing, Dir, File, Symlink, Whiteout}
@@ -73,7 +73,7 @@ layer_from u ls front (n ∷ rest) ok layers way path parent few =
     few
 
 -- the layer with the directories above a path is one, where its inodes are few enough
-pub IsLayer-with_parents : (u : Tree) (ls : List Tree) (p : Names) → IsLayer u → AreLayers ls → walk (u ∷ ls) p ≡ None → IsPath p → inode_count (with_parents u ls p) ≤ (with_parents u ls p).most → IsLayer (with_parents u ls p)
+pub IsLayer-with_parents : (u : Tree) (ls : List Tree) (p : Names) → IsLayer u → AreLayers ls → walk_error (u ∷ ls) p ≡ None → IsPath p → inode_count (with_parents u ls p) ≤ (with_parents u ls p).most → IsLayer (with_parents u ls p)
 IsLayer-with_parents u ls p ok layers way path few = layer_from u ls [] p ok layers way path (λ q n e. absurd (no_root q n e)) few
   where
     no_root : (q : Names) (n : List ℕ) → [] ≡ q ++ n ∷ [] → ⊥
@@ -122,7 +122,7 @@ IsLayer-with_last t p Whiteout ok path fit parent within =
     becomes.layer (omega (arith, becomes.count, few_from v within))
 
 -- the layer with the directories above a path, and with what is put there
-pub IsLayer-put : (u : Tree) (ls : List Tree) (p : Names) (last : Last) → IsLayer u → AreLayers ls → walk (u ∷ ls) p ≡ None → IsPath p → CanStand last u p → is_within (with_last last (with_parents u ls p) p) ≡ true → IsLayer (with_last last (with_parents u ls p) p)
+pub IsLayer-put : (u : Tree) (ls : List Tree) (p : Names) (last : Last) → IsLayer u → AreLayers ls → walk_error (u ∷ ls) p ≡ None → IsPath p → CanStand last u p → is_within (with_last last (with_parents u ls p) p) ≡ true → IsLayer (with_last last (with_parents u ls p) p)
 IsLayer-put u ls p last ok layers way path fit within =
     IsLayer-with_last t p last (by (at u p) refl) path (fits_same last u t p (adds.leaves p (omega arith)) fit) (parents_stand u ls p way) within
   where
@@ -139,7 +139,7 @@ IsLayer-put u ls p last ok layers way path fit within =
         IsLayer-with_parents u ls p ok layers way path (omega (arith, last_inodes u t ls p ok e adds grows.sorted last, few_from (with_last last t p) within, most_last last t p))
 
 -- the layer with what is copied up
-pub IsLayer-copied_up : (u : Tree) (ls : List Tree) (p : Names) → IsLayer u → AreLayers ls → walk (u ∷ ls) p ≡ None → IsPath p → is_within (copied_up u ls p) ≡ true → IsLayer (copied_up u ls p)
+pub IsLayer-copied_up : (u : Tree) (ls : List Tree) (p : Names) → IsLayer u → AreLayers ls → walk_error (u ∷ ls) p ≡ None → IsPath p → is_within (copied_up u ls p) ≡ true → IsLayer (copied_up u ls p)
 IsLayer-copied_up u ls p ok layers way path within =
     let same = last_copied u ls p way in
     subst IsLayer same (IsLayer-put u ls p (last_of (at u p) (below u ls p)) ok layers way path (copy_fits u ls p ok layers) (ap is_within same ∙ within))

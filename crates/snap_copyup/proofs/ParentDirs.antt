@@ -9,7 +9,7 @@ use Rattle.snap_layer.specs.Edits.{with_entry}
 use Rattle.snap_layer.proofs.Looks.{Sets, Sets-with_entry, split_path}
 use Rattle.snap_layer.proofs.Paths.{begins_from}
 use Rattle.snap_merge.specs.Objects.{Object, dir, file, symlink, seen, is_shown_dir}
-use Rattle.snap_merge.specs.Walk.{walk, walk_from}
+use Rattle.snap_merge.specs.Walk.{walk_error, walk_from}
 use Rattle.snap_merge.proofs.Views.{seen_node, walk_same}
 use Rattle.snap_copyup.specs.Copying.{below, copied, with_object, with_parents, with_parents_from}
 use Rattle.snap_copyup.proofs.Alone.{walk_passes, below_seen, copied_there, copied_missing, dir_there_over}
@@ -88,7 +88,7 @@ adds_from u ls front (n ∷ rest) m far way =
     both u (copied u ls front) (with_parents_from (copied u ls front) ls (front ++ n ∷ []) rest) ls m step later
 
 -- the directories above a path that the walk passes
-pub adds_parents : (u : Tree) (ls : List Tree) (p : Names) → walk (u ∷ ls) p ≡ None → AddsParents u (with_parents u ls p) ls (length p)
+pub adds_parents : (u : Tree) (ls : List Tree) (p : Names) → walk_error (u ∷ ls) p ≡ None → AddsParents u (with_parents u ls p) ls (length p)
 adds_parents u ls p way = adds_from u ls [] p (length p) (omega arith) way
 
 -- ---- nothing else is added
@@ -135,7 +135,7 @@ extends_from u ls front (n ∷ rest) w is way =
     (extends_from v ls (front ++ n ∷ []) rest w (append_assoc front (n ∷ []) rest ∙ is) (walk_same (u ∷ ls) (v ∷ ls) adds.view (front ++ n ∷ []) rest ∙ passes.1))
 
 -- the directories above a path are added where nothing stands
-pub parents_extend : (u : Tree) (ls : List Tree) (p : Names) → walk (u ∷ ls) p ≡ None → Extends u (with_parents u ls p) p
+pub parents_extend : (u : Tree) (ls : List Tree) (p : Names) → walk_error (u ∷ ls) p ≡ None → Extends u (with_parents u ls p) p
 parents_extend u ls p way = extends_from u ls [] p p refl way
 
 -- ---- the directories stand
@@ -178,10 +178,10 @@ stands_from u ls (m ∷ q) front n r way =
     (stands_from v ls q (front ++ m ∷ []) n r (walk_same (u ∷ ls) (v ∷ ls) step.view (front ++ m ∷ []) (q ++ n ∷ r) ∙ passes.1))
 
 -- above a path that the walk passes all directories stand once they are added
-pub parents_all_stand : (u : Tree) (ls : List Tree) (p : Names) → walk (u ∷ ls) p ≡ None → (q : Names) (n : List ℕ) (r : Names) → p ≡ q ++ n ∷ r → IsDirAt (at (with_parents u ls p) q)
+pub parents_all_stand : (u : Tree) (ls : List Tree) (p : Names) → walk_error (u ∷ ls) p ≡ None → (q : Names) (n : List ℕ) (r : Names) → p ≡ q ++ n ∷ r → IsDirAt (at (with_parents u ls p) q)
 parents_all_stand u ls p way q n r is =
-    subst (λ (x : Names). IsDirAt (at (with_parents u ls x) q)) (sym is) (stands_from u ls q [] n r (ap (λ (x : Names). walk (u ∷ ls) x) (sym is) ∙ way))
+    subst (λ (x : Names). IsDirAt (at (with_parents u ls x) q)) (sym is) (stands_from u ls q [] n r (ap (λ (x : Names). walk_error (u ∷ ls) x) (sym is) ∙ way))
 
 -- and so does the parent
-pub parents_stand : (u : Tree) (ls : List Tree) (p : Names) → walk (u ∷ ls) p ≡ None → (q : Names) (n : List ℕ) → p ≡ q ++ n ∷ [] → IsDirAt (at (with_parents u ls p) q)
+pub parents_stand : (u : Tree) (ls : List Tree) (p : Names) → walk_error (u ∷ ls) p ≡ None → (q : Names) (n : List ℕ) → p ≡ q ++ n ∷ [] → IsDirAt (at (with_parents u ls p) q)
 parents_stand u ls p way q n is = parents_all_stand u ls p way q n [] is

@@ -11,7 +11,7 @@ use Rattle.snap_layer.specs.Layers.{IsLayer}
 use Rattle.snap_layer.proofs.Kept.{nothing_below}
 use Rattle.snap_merge.specs.Reach.{Traced}
 use Rattle.snap_merge.proofs.Reaching.{traced_none, traced_leaf, goes_on}
-use Rattle.snap_merge.specs.Walk.{walk, walk_from}
+use Rattle.snap_merge.specs.Walk.{walk_error, walk_from}
 use Rattle.snap_copyup.specs.Copying.{with_parents, with_parents_from}
 use Rattle.snap_copyup.specs.Places.{ParentStands, StandsAbove}
 use Rattle.snap_copyup.proofs.Missing.{missing_from}
@@ -84,7 +84,7 @@ pub record Stood (u : Tree) (ls : List Tree) (p : Names) (k : ℕ) : Type 0 wher
   pub parent : ParentStands u (take k p)
   pub same : with_parents u ls p ≡ with_parents_from u ls (take k p) (drop k p)
 
-pub stood : (u : Tree) (ls : List Tree) (p : Names) (k : ℕ) → walk (u ∷ ls) p ≡ None → k ≤ length p → ((j : ℕ) → j < k → is_some (at u (take j p)) ≡ true) → Stood u ls p k
+pub stood : (u : Tree) (ls : List Tree) (p : Names) (k : ℕ) → walk_error (u ∷ ls) p ≡ None → k ≤ length p → ((j : ℕ) → j < k → is_some (at u (take j p)) ≡ true) → Stood u ls p k
 stood u ls p zero way within there = record {
   way = way;
   parent = λ q n e. absurd (omega (arith, ap length e, length-append q (n ∷ [])));

@@ -19,7 +19,7 @@ use Rattle.snap_layer.proofs.Kept.{dir_above, nothing_below}
 use Rattle.snap_layer.proofs.Laws.{sorted-with_entry}
 use Rattle.snap_merge.specs.Objects.{Object, dir, file, symlink, seen, is_shown_dir}
 use Rattle.snap_merge.specs.declared.error.FsError.{FsError}
-use Rattle.snap_merge.specs.Walk.{walk, walk_from, walk_on}
+use Rattle.snap_merge.specs.Walk.{walk_error, walk_from, walk_on}
 use Rattle.snap_merge.proofs.Views.{walk_same}
 use Rattle.snap_copyup.specs.Copying.{below, copied, with_object, with_parents, with_parents_from}
 use Rattle.snap_copyup.specs.Undoing.{Undoes}
@@ -77,7 +77,7 @@ taken_entry t p n sorted vacant unnumbered =
     by q true e = sym (ap (at t) (begins_rest p q e) ∙ vacant (drop (length p) q))
     by q false e = (Sets-with_entry t p n).others q (λ same. no_bool (sym (ap (begins p) same ∙ begins_itself p) ∙ e))
 
-module _ (u : Tree) (ls : List Tree) (p : Names) (k : ℕ) (lt : k < length p) (ok : IsLayer u) (way : walk (u ∷ ls) p ≡ None) where
+module _ (u : Tree) (ls : List Tree) (p : Names) (k : ℕ) (lt : k < length p) (ok : IsLayer u) (way : walk_error (u ∷ ls) p ≡ None) where
   -- the directories above the front, and with the front
   abbrev f : Names
   f = take k p
@@ -85,8 +85,8 @@ module _ (u : Tree) (ls : List Tree) (p : Names) (k : ℕ) (lt : k < length p) (
   abbrev m : Tree
   m = with_parents u ls (take k p)
 
-  parts : (walk (u ∷ ls) (take k p) ≡ None) × (walk_from (u ∷ ls) (take k p) (get_or p k [] ∷ drop (k + 1) p) ≡ None)
-  parts = walk_split (u ∷ ls) [] (take k p) (get_or p k [] ∷ drop (k + 1) p) (ap (walk (u ∷ ls)) (sym (at_drop_more (λ (rest : Names). take k p ++ rest) p k [] lt) ∙ take-append-drop k p) ∙ way)
+  parts : (walk_error (u ∷ ls) (take k p) ≡ None) × (walk_from (u ∷ ls) (take k p) (get_or p k [] ∷ drop (k + 1) p) ≡ None)
+  parts = walk_split (u ∷ ls) [] (take k p) (get_or p k [] ∷ drop (k + 1) p) (ap (walk_error (u ∷ ls)) (sym (at_drop_more (λ (rest : Names). take k p ++ rest) p k [] lt) ∙ take-append-drop k p) ∙ way)
 
   shown : is_shown_dir (seen (u ∷ ls) (take k p)) ≡ true
   shown = (walk_passes (seen (u ∷ ls) (take k p)) (walk_from (u ∷ ls) (take k p ++ get_or p k [] ∷ []) (drop (k + 1) p)) parts.1).0
@@ -139,7 +139,7 @@ module _ (u : Tree) (ls : List Tree) (p : Names) (k : ℕ) (lt : k < length p) (
     front_taken = ap (λ (t : Tree). without t f) added_is ∙ taken_entry m f (node.Dir is_dir_with.0 false) (grows_from u ls [] f ok.sorted_paths parts.0).sorted vacant refl
 
 -- where the layer has a node at each path above a front, nothing is added above it
-pub fronts_there : (u : Tree) (ls : List Tree) (p : Names) (k : ℕ) → IsLayer u → walk (u ∷ ls) p ≡ None → k ≤ length p → ((j : ℕ) → j < k → is_some (at u (take j p)) ≡ true) → with_parents u ls (take k p) ≡ u
+pub fronts_there : (u : Tree) (ls : List Tree) (p : Names) (k : ℕ) → IsLayer u → walk_error (u ∷ ls) p ≡ None → k ≤ length p → ((j : ℕ) → j < k → is_some (at u (take j p)) ≡ true) → with_parents u ls (take k p) ≡ u
 fronts_there u ls p zero ok way within there = refl
 fronts_there u ls p (suc j) ok way within there =
     subst (λ (k : ℕ). with_parents u ls (take k p) ≡ u) (add-one j)
@@ -166,9 +166,9 @@ parents_there u ls (x ∷ xs) ok parent =
 
 -- ---- the directories above two paths
 
-module _ (u : Tree) (ls : List Tree) (p q : Names) (one : walk (u ∷ ls) p ≡ None) (other : walk (u ∷ ls) q ≡ None) where
+module _ (u : Tree) (ls : List Tree) (p q : Names) (one : walk_error (u ∷ ls) p ≡ None) (other : walk_error (u ∷ ls) q ≡ None) where
   -- the walk to the second path finds no error either, once those above the first are added
-  pub second_way : walk (with_parents u ls p ∷ ls) q ≡ None
+  pub second_way : walk_error (with_parents u ls p ∷ ls) q ≡ None
   second_way = walk_same (u ∷ ls) (with_parents u ls p ∷ ls) (adds_parents u ls p one).view [] q ∙ other
 
   -- where the first pass the limits, all do

@@ -1,5 +1,4 @@
 -- What is copied up into the upper layer before it changes (overlayfs.rst, "Non-directories").
--- Cited by `below`, `is_pure`, `is_pure_over` and others.
 use Rattle.std.specs.Prelude.{Bool, false, not, ◌||◌, List, [], ◌∷◌, ◌++◌, Option, Some, None, is_some, if◌then◌else◌}
 use Rattle.snap_path.specs.Text.{Names}
 use Rattle.snap_layer.specs.declared.node.Node.{Node}

@@ -1,5 +1,4 @@
 -- What is put at a path, once the directories above it stand.
--- Cited by `copy_up`, `ensure_dirs`, `put` and others.
 use Rattle.std.specs.Prelude.{◌≡◌, ◌⊎◌, ℕ, ◌+◌, ◌<◌, ◌≤◌, true, false, List, [], ◌∷◌, ◌++◌, length, take, Option, Some, None, is_some}
 use Rattle.snap_path.specs.Limits.{most_mode}
 use Rattle.snap_path.specs.Memory.{no_memory}

@@ -1,5 +1,4 @@
 -- What takes back what was added to a layer.
--- Cited by `add_dirs`, `add_dirs_of_both`, `take_all`.
 use Rattle.std.specs.Prelude.{◌≡◌, List, [], ◌∷◌}
 use Rattle.snap_path.specs.Text.{Names}
 use Rattle.snap_layer.specs.Tree.{Tree}

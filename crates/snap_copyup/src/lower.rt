@@ -2,9 +2,10 @@
 ghost use Rattle.std.specs.Prelude.{◌≡◌, ◌∷◌, OnOk, OnErr, IfOk, IfErr, None};
 ghost use Rattle.std.specs.Option.{option_map};
 ghost use Rattle.snap_path.specs.Text.{Names};
+ghost use Rattle.snap_layer.specs.Layers.{IsLayer};
 ghost use Rattle.snap_layer.specs.Tree.{at};
 ghost use Rattle.snap_merge.specs.Objects.{object, seen};
-ghost use Rattle.snap_merge.specs.Walk.{walk};
+ghost use Rattle.snap_merge.specs.Walk.{walk_error};
 ghost use Rattle.snap_copyup.specs.Copying.{below, copied_up, is_pure, is_pure_over, object_body};
 ghost use Rattle.snap_copyup.specs.Places.{last_of, IsRefusal};
 
@@ -66,7 +67,7 @@ pub fn is_pure_over(node: Option<Node>, under: Option<Seen<'_>>) -> bool
 /// the file numbers are used up. `OutOfMemory` where memory for the content, a path or an entry is refused.
 /// After either the layer is as it was. Cost: that of `ensure_dirs` and of `below`, and the file's content.
 pub fn copy_up(layer: &mut Layer, lowers: &[Shared], path: &Path) -> Result<(), FsError>
-    requires { walk (layer.old ∷ lowers.now) path.now ≡ None }
+    requires { walk_error (layer.old ∷ lowers.now) path.now ≡ None }
     ensures ok { OnOk result (layer.new ≡ copied_up layer.old lowers.now path.now) }
     ensures error { IfErr result (λ e. IsRefusal (copied_up layer.old lowers.now path.now) e) }
     ensures unchanged { OnErr result (layer.new ≡ layer.old) }
@@ -74,14 +75,14 @@ pub fn copy_up(layer: &mut Layer, lowers: &[Shared], path: &Path) -> Result<(), 
     ensures view { OnOk result ((q : Names) → seen (layer.new ∷ lowers.now) q ≡ seen (layer.old ∷ lowers.now) q) }
 {
     show_are_layers(lowers);
-    let _ = &layer.is_layer;
     let last = copy_below(layer, lowers, path)?;
     put(layer, lowers, path, last)
 }
 
 /// What a copy-up puts at the path: what is below, where the layer has no node there, with a copy of its content.
 fn copy_below(layer: &Layer, lowers: &[Shared], path: &Path) -> Result<Last, AllocError>
-    ensures { IfOk result (λ last. last ≡ last_of (at layer.now path.now) (below layer.now lowers.now path.now)) }
+    ensures last { IfOk result (λ last. last ≡ last_of (at layer.now path.now) (below layer.now lowers.now path.now)) }
+    ensures layer { IsLayer layer.now }
 {
     if layer.at(path).is_some() {
         return Ok(Last::Nothing);

@@ -1,15 +1,15 @@
 // The directories above a path that a layer doesn't have, and what is put at the path once they stand.
 ghost use Rattle.std.specs.Prelude.{◌≡◌, ◌∷◌, ◌+◌, ◌<◌, ◌≤◌, List, OnOk, OnErr, IfErr, None, length, take, drop, true};
 ghost use Rattle.snap_path.specs.Text.{Names};
+ghost use Rattle.snap_layer.specs.Layers.{IsLayer};
 ghost use Rattle.snap_layer.specs.Tree.{Tree, at};
 ghost use Rattle.snap_merge.specs.Objects.{seen, is_shown_dir, AreLayers};
-ghost use Rattle.snap_merge.specs.Walk.{walk, walk_from};
+ghost use Rattle.snap_merge.specs.Walk.{walk_error, walk_from};
 ghost use Rattle.snap_copyup.specs.Copying.{copied, with_parents, with_parents_from};
 ghost use Rattle.snap_copyup.specs.Places.{with_last, CanStand, IsRefusal, ParentStands, StandsAbove, TakesMore};
 
-use super::lower::below;
 use snap_layer::{Bytes, Content, Layer, Shared};
-use snap_merge::{FsError, Seen, show_are_layers};
+use snap_merge::{FsError, Seen, Stack, show_are_layers};
 use snap_path::{Name, Path};
 
 /// What is put at a path, once the directories above it stand.
@@ -34,11 +34,12 @@ pub enum Last {
 /// first, so that `Stack::walk` finds no error. `LayerFull` where the layer would have more inodes than it
 /// may. `OutOfMemory` where memory for a path or an entry is refused. After either the layer is as it
 /// was: what had been added is taken back, which takes no memory. Cost: a walk to the path in the layer, as far as
-/// it has a node. For each directory that is missing also a walk to it, that of `below`, and the text of its path;
-/// the calls then nest as deep as directories are missing.
+/// it has a node. For each directory that is missing also a walk to it, a look at it through the lower layers, and the
+/// text of its path; the calls then nest as deep as directories are missing.
 pub fn ensure_dirs(layer: &mut Layer, lowers: &[Shared], path: &Path) -> Result<(), FsError>
-    requires { walk (layer.old ∷ lowers.now) path.now ≡ None }
+    requires { walk_error (layer.old ∷ lowers.now) path.now ≡ None }
     ensures ok { OnOk result (layer.new ≡ with_parents layer.old lowers.now path.now) }
+    ensures layer { OnOk result (IsLayer layer.new) }
     ensures error { IfErr result (λ e. IsRefusal (with_parents layer.old lowers.now path.now) e) }
     ensures unchanged { OnErr result (layer.new ≡ layer.old) }
     // Nothing that is seen changes.
@@ -56,13 +57,13 @@ pub fn ensure_dirs(layer: &mut Layer, lowers: &[Shared], path: &Path) -> Result<
 /// have more inodes than it may, or where the file numbers are used up. `OutOfMemory` where memory is
 /// refused. After either the layer is as it was, and the content is gone. Cost: as `ensure_dirs`.
 pub fn put(layer: &mut Layer, lowers: &[Shared], path: &Path, last: Last) -> Result<(), FsError>
-    requires way { walk (layer.old ∷ lowers.now) path.now ≡ None }
+    requires way { walk_error (layer.old ∷ lowers.now) path.now ≡ None }
     requires fit { CanStand last layer.old path.now }
     ensures ok { OnOk result (layer.new ≡ with_last last (with_parents layer.old lowers.now path.now) path.now) }
+    ensures layer { OnOk result (IsLayer layer.new) }
     ensures error { IfErr result (λ e. IsRefusal (with_last last (with_parents layer.old lowers.now path.now) path.now) e) }
     ensures unchanged { OnErr result (layer.new ≡ layer.old) }
 {
-    let _ = &layer.is_layer;
     show_are_layers(lowers);
     let names = standing_dirs(layer, path);
     put_from(layer, lowers, path, names, last)
@@ -79,11 +80,13 @@ fn put_from(
 ) -> Result<(), FsError>
     requires within { names ≤ length path.now }
     requires layers { AreLayers lowers.now }
+    requires layer { IsLayer layer.old }
     requires way { walk_from (layer.old ∷ lowers.now) (take names path.now) (drop names path.now) ≡ None }
     requires parent { ParentStands layer.old (take names path.now) }
     requires missing { names < length path.now → at layer.old (take names path.now) ≡ None }
     requires fit { CanStand last layer.old path.now }
     ensures ok { OnOk result (layer.new ≡ with_last last (with_parents_from layer.old lowers.now (take names path.now) (drop names path.now)) path.now) }
+    ensures layer { OnOk result (IsLayer layer.new) }
     ensures error { IfErr result (λ e. IsRefusal (with_last last (with_parents_from layer.old lowers.now (take names path.now) (drop names path.now)) path.now) e) }
     ensures unchanged { OnErr result (layer.new ≡ layer.old) }
 {
@@ -91,7 +94,6 @@ fn put_from(
         return put_last(layer, path, last);
     }
     let front = path.front(names)?;
-    let _ = &layer.is_layer;
     put_parent(layer, lowers, &front)?;
     match put_from(layer, lowers, path, names + 1, last) {
         Ok(()) => return Ok(()),
@@ -104,13 +106,14 @@ fn put_from(
 
 /// Puts it at the path, in one edit.
 pub(crate) fn put_last(layer: &mut Layer, path: &Path, last: Last) -> Result<(), FsError>
+    requires layer { IsLayer layer.old }
     requires fit { CanStand last layer.old path.now }
     requires parent { ParentStands layer.old path.now }
     ensures ok { OnOk result (layer.new ≡ with_last last layer.old path.now) }
+    ensures layer { OnOk result (IsLayer layer.new) }
     ensures error { IfErr result (λ e. IsRefusal (with_last last layer.old path.now) e) }
     ensures unchanged { OnErr result (layer.new ≡ layer.old) }
 {
-    let _ = &layer.is_layer;
     match last {
         Last::Nothing => {}
         Last::Dir { mode, opaque } => layer.add_dir(path, mode, opaque)?,
@@ -126,17 +129,20 @@ pub(crate) fn put_last(layer: &mut Layer, path: &Path, last: Last) -> Result<(),
 }
 
 /// Adds the directory that is seen at the path, where the layer has no node, with its mode.
+#[tactic(auto, using(crate::proofs::Alone::below_unhidden))]
 pub(crate) fn put_parent(layer: &mut Layer, lowers: &[Shared], path: &Path) -> Result<(), FsError>
     requires layers { AreLayers lowers.now }
+    requires layer { IsLayer layer.old }
     requires nothing { at layer.old path.now ≡ None }
     requires parent { ParentStands layer.old path.now }
     requires seen { is_shown_dir (seen (layer.old ∷ lowers.now) path.now) ≡ true }
     ensures ok { OnOk result (layer.new ≡ copied layer.old lowers.now path.now) }
+    ensures layer { OnOk result (IsLayer layer.new) }
     ensures error { IfErr result (λ e. IsRefusal (copied layer.old lowers.now path.now) e) }
     ensures unchanged { OnErr result (layer.new ≡ layer.old) }
 {
-    let _ = &layer.is_layer;
-    match below(layer, lowers, path) {
+    // The layer has no node there and hides nothing, since a directory is seen.
+    match Stack::of(lowers).look(path) {
         Some(Seen::Dir { mode }) => {
             let opaque = false;
             put_last(layer, path, Last::Dir { mode, opaque })
@@ -153,10 +159,9 @@ pub(crate) fn put_parent(layer: &mut Layer, lowers: &[Shared], path: &Path) -> R
 /// Takes no memory. Cost: for each name of the path, as far as the layer has a node, the logarithm of a
 /// directory's entries.
 pub fn missing_dirs(layer: &Layer, path: &Path) -> usize
-    ensures count { (lowers : List Tree) → walk (layer.now ∷ lowers) path.now ≡ None → TakesMore result layer.now (with_parents layer.now lowers path.now) }
+    ensures count { (lowers : List Tree) → walk_error (layer.now ∷ lowers) path.now ≡ None → TakesMore result layer.now (with_parents layer.now lowers path.now) }
     ensures few { result ≤ length path.now }
 {
-    let _ = &layer.is_layer;
     path.names().len() - standing_dirs(layer, path)
 }
 
@@ -166,10 +171,9 @@ pub fn missing_dirs(layer: &Layer, path: &Path) -> usize
 /// Takes no memory. Cost: for each name of both paths, as far as the layer has a node, the logarithm of a
 /// directory's entries.
 pub fn missing_dirs_of_both(layer: &Layer, one: &Path, other: &Path) -> usize
-    ensures count { (lowers : List Tree) → walk (layer.now ∷ lowers) one.now ≡ None → walk (layer.now ∷ lowers) other.now ≡ None → TakesMore result layer.now (with_parents (with_parents layer.now lowers one.now) lowers other.now) }
+    ensures count { (lowers : List Tree) → walk_error (layer.now ∷ lowers) one.now ≡ None → walk_error (layer.now ∷ lowers) other.now ≡ None → TakesMore result layer.now (with_parents (with_parents layer.now lowers one.now) lowers other.now) }
     ensures few { result ≤ length one.now + length other.now }
 {
-    let _ = &layer.is_layer;
     let shared = shared_names(one.names(), other.names());
     let counted = one.names().len().min(shared + 1);
     let passed = counted.max(standing_dirs(layer, other));
@@ -180,9 +184,9 @@ pub fn missing_dirs_of_both(layer: &Layer, one: &Path, other: &Path) -> usize
 /// At how many paths above the path the layer has a node, from the root on: one look-up in one directory for each
 /// name, and none after the first at which it has nothing.
 pub(crate) fn standing_dirs(layer: &Layer, path: &Path) -> usize
-    ensures { StandsAbove layer.now path.now result }
+    ensures above { StandsAbove layer.now path.now result }
+    ensures layer { IsLayer layer.now }
 {
-    let _ = &layer.is_layer;
     let names = path.names();
     let mut dir = layer.root_dir();
     for (front, name) in names.iter().enumerate() {

@@ -1,7 +1,9 @@
 // What was added to a layer is taken back.
 ghost use Rattle.std.specs.Prelude.{◌≡◌, ◌∷◌, List, OnOk, OnErr, IfOk, IfErr, None};
+ghost use Rattle.snap_path.specs.Text.{IsPath};
+ghost use Rattle.snap_layer.specs.Layers.{IsLayer};
 ghost use Rattle.snap_layer.specs.Tree.{Tree};
-ghost use Rattle.snap_merge.specs.Walk.{walk};
+ghost use Rattle.snap_merge.specs.Walk.{walk_error};
 ghost use Rattle.snap_copyup.specs.Copying.{with_parents};
 ghost use Rattle.snap_copyup.specs.Places.{IsRefusal};
 ghost use Rattle.snap_copyup.specs.Undoing.{Undoes};
@@ -15,9 +17,9 @@ use std::alloc::AllocError;
 /// The directories above the path that the layer doesn't have, the lowest first: so `take_all` takes them back
 /// once `ensure_dirs` has added them.
 fn missing_paths(layer: &Layer, path: &Path) -> Result<Vec<Path>, AllocError>
-    ensures { IfOk result (λ dirs. (lowers : List Tree) → walk (layer.now ∷ lowers) path.now ≡ None → Undoes dirs.items (with_parents layer.now lowers path.now) layer.now) }
+    ensures dirs { IfOk result (λ dirs. (lowers : List Tree) → walk_error (layer.now ∷ lowers) path.now ≡ None → Undoes dirs.items (with_parents layer.now lowers path.now) layer.now) }
+    ensures layer { IsLayer layer.now }
 {
-    let _ = &layer.is_layer;
     let first = standing_dirs(layer, path);
     let mut missing = Vec::new(layer.alloc());
     for names in (first..path.names().len()).rev() {
@@ -33,13 +35,14 @@ fn missing_paths(layer: &Layer, path: &Path) -> Result<Vec<Path>, AllocError>
 /// of the path stands, a walk to it in the layer. Else as `ensure_dirs`, and once more the walk and the text of each
 /// path.
 pub fn add_dirs(layer: &mut Layer, lowers: &[Shared], path: &Path) -> Result<Vec<Path>, FsError>
-    requires { walk (layer.old ∷ lowers.now) path.now ≡ None }
+    requires { walk_error (layer.old ∷ lowers.now) path.now ≡ None }
     ensures ok { OnOk result (layer.new ≡ with_parents layer.old lowers.now path.now) }
     ensures undo { IfOk result (λ dirs. Undoes dirs.items layer.new layer.old) }
+    ensures path { IsPath path.now }
+    ensures layer { IsLayer layer.new }
     ensures error { IfErr result (λ e. IsRefusal (with_parents layer.old lowers.now path.now) e) }
     ensures unchanged { OnErr result (layer.new ≡ layer.old) }
 {
-    let _ = &layer.is_layer;
     if layer.has_parent(path) {
         return Ok(Vec::new(layer.alloc()));
     }
@@ -60,15 +63,15 @@ pub fn add_dirs_of_both(
     one: &Path,
     other: &Path,
 ) -> Result<(Vec<Path>, Vec<Path>), FsError>
-    requires one { walk (layer.old ∷ lowers.now) one.now ≡ None }
-    requires other { walk (layer.old ∷ lowers.now) other.now ≡ None }
+    requires one { walk_error (layer.old ∷ lowers.now) one.now ≡ None }
+    requires other { walk_error (layer.old ∷ lowers.now) other.now ≡ None }
     ensures ok { OnOk result (layer.new ≡ with_parents (with_parents layer.old lowers.now one.now) lowers.now other.now) }
     ensures first { IfOk result (λ dirs. Undoes dirs.0.items (with_parents layer.old lowers.now one.now) layer.old) }
+    ensures layer { OnOk result (IsLayer layer.new) }
     ensures others { IfOk result (λ dirs. Undoes dirs.1.items layer.new (with_parents layer.old lowers.now one.now)) }
     ensures error { IfErr result (λ e. IsRefusal (with_parents (with_parents layer.old lowers.now one.now) lowers.now other.now) e) }
     ensures unchanged { OnErr result (layer.new ≡ layer.old) }
 {
-    let _ = &layer.is_layer;
     let first = add_dirs(layer, lowers, one)?;
     match add_dirs(layer, lowers, other) {
         Ok(others) => Ok((first, others)),

@@ -1,5 +1,4 @@
 -- How often a text is counted, in a list of texts with their counts. Texts are their bytes.
--- Cited by `Counts::new`, `Counts::count`, `Counts::has` and others.
 use Rattle.std.specs.Prelude.{◌≡◌, ℕ, List, [], ◌∷◌, String, string_bytes}
 use Rattle.std.specs.Map.{lookup}
 use Rattle.std.specs.Option.{unwrap_or}

@@ -3,3 +3,4 @@ mod Names
 mod Pages
 mod Places
 mod Starts
+mod Ways

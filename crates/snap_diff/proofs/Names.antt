@@ -16,7 +16,8 @@ use Rattle.snap_layer.specs.Tree.{Tree, at, hides, node_hides, names_below}
 use Rattle.snap_layer.proofs.Laws.{names_below_are}
 use Rattle.snap_layer.proofs.Listed.{sorted_below}
 use Rattle.snap_merge.specs.Objects.{Object, seen, AreLayers}
-use Rattle.snap_merge.specs.Listing.{name_cmp, names, put_names}
+use Rattle.snap_merge.specs.Listing.{names, put_names}
+use Rattle.snap_layer.specs.Rows.{name_cmp}
 use Rattle.snap_merge.proofs.Hiding.{hides_snoc}
 use Rattle.snap_merge.proofs.Listings.{has_insert_key, listing_is, same_bytes}
 use Rattle.snap_merge.proofs.Sharing.{same_names}

@@ -12,10 +12,10 @@ use Rattle.std.proofs.lemmas.Slice.Eq.{bytes_eq-Decides}
 use Rattle.snap_path.specs.Text.{Names, begins}
 use Rattle.snap_layer.specs.Tree.{Tree, path_cmp}
 use Rattle.snap_merge.specs.Objects.{Object, dir, file, symlink, seen}
-use Rattle.snap_merge.specs.Listing.{name_cmp}
+use Rattle.snap_layer.specs.Rows.{name_cmp}
 use Rattle.snap_diff.specs.declared.change.ChangeKind.{ChangeKind}
 use Rattle.snap_diff.specs.declared.change.Change.{Change}
-use Rattle.snap_diff.specs.Changes.{both_names, layer_change, changes_below, inside, is_past, put_rows, row}
+use Rattle.snap_diff.specs.Changes.{both_names, layer_change, changes_below, if_directory, is_past, put_rows, told_change}
 use Rattle.snap_diff.proofs.Walks.{put_rows-append}
 
 -- a path after another, which is none of its fronts, comes after all below that one
@@ -36,7 +36,7 @@ past_all (x ∷ a) (y ∷ p) r above apart = by (name_cmp x y) refl (past_all a 
         ap (λ o. is_lt (ordering_then o (path_cmp a (p ++ r)))) e
         ∙ later (ap (λ o. is_gt (ordering_then o (path_cmp a p))) (sym e) ∙ above) (ap (λ b. b && begins p a) (sym first) ∙ apart)
 
-skip_row : (most : ℕ) (a : Names) (rows : List Change) (q : Names) (kind : Option ChangeKind) → is_lt (path_cmp a q) ≡ false → put_rows most (Some a) rows (row q kind) ≡ rows
+pub skip_row : (most : ℕ) (a : Names) (rows : List Change) (q : Names) (kind : Option ChangeKind) → is_lt (path_cmp a q) ≡ false → put_rows most (Some a) rows (told_change q kind) ≡ rows
 skip_row most a rows q None e = refl
 skip_row most a rows q (Some kind) e = ap (λ b. cond (b && nat_lt (length rows) most) (rows ++ record { kind = kind; path = q } ∷ []) rows) e
 
@@ -47,7 +47,7 @@ skip_names most a rows f each (n ∷ ns) =
     ∙ ap (λ (rs : List Change). put_rows most (Some a) rs (flat_map f ns)) (each n)
     ∙ skip_names most a rows f each ns
 
-skip_inside : (most : ℕ) (a : Names) (rows : List Change) (o : Option Object) (cs : List Change) → put_rows most (Some a) rows cs ≡ rows → put_rows most (Some a) rows (inside o cs) ≡ rows
+skip_inside : (most : ℕ) (a : Names) (rows : List Change) (o : Option Object) (cs : List Change) → put_rows most (Some a) rows cs ≡ rows → put_rows most (Some a) rows (if_directory o cs) ≡ rows
 skip_inside most a rows None cs e = refl
 skip_inside most a rows (Some (dir mode)) cs e = e
 skip_inside most a rows (Some (file mode content)) cs e = refl
@@ -58,11 +58,11 @@ unfolding changes_below
 skip_below zero t ts most a rows p above apart r = refl
 skip_below (suc k) t ts most a rows p above apart r =
     let q : Names = p ++ r in
-    let here : List Change = row q (layer_change t ts q) in
+    let here : List Change = told_change q (layer_change t ts q) in
     let within : List Change = flat_map (λ name. changes_below k t ts (q ++ name ∷ [])) (both_names ts (t ∷ ts) q) in
     let each : (n : List ℕ) → put_rows most (Some a) rows (changes_below k t ts (q ++ n ∷ [])) ≡ rows = λ n. ap (λ (x : Names). put_rows most (Some a) rows (changes_below k t ts x)) (append_assoc p r (n ∷ [])) ∙ skip_below k t ts most a rows p above apart (r ++ n ∷ []) in
-    put_rows-append most (Some a) rows here (inside (seen (t ∷ ts) q) within)
-    ∙ ap (λ (rs : List Change). put_rows most (Some a) rs (inside (seen (t ∷ ts) q) within)) (skip_row most a rows q (layer_change t ts q) (past_all a p r above apart))
+    put_rows-append most (Some a) rows here (if_directory (seen (t ∷ ts) q) within)
+    ∙ ap (λ (rs : List Change). put_rows most (Some a) rs (if_directory (seen (t ∷ ts) q) within)) (skip_row most a rows q (layer_change t ts q) (past_all a p r above apart))
     ∙ skip_inside most a rows (seen (t ∷ ts) q) within (skip_names most a rows (λ name. changes_below k t ts (q ++ name ∷ [])) each (both_names ts (t ∷ ts) q))
 
 -- nothing at a path and below it is of the page, where the page begins past all of it

@@ -11,9 +11,10 @@ use Rattle.snap_layer.specs.Layers.{IsLayer}
 use Rattle.snap_layer.proofs.Dirs.{a_dir}
 use Rattle.snap_merge.proofs.Hiding.{hides_snoc}
 use Rattle.snap_diff.specs.Changes.{is_merged, is_untouched}
-use Rattle.snap_diff.specs.Places.{dir_at, IsOwn}
+use Rattle.snap_diff.specs.Places.{IsOwnPlace}
+use Rattle.snap_merge.specs.Row.{dir_at}
 
-pub root_own : (t : Tree) (x : Node) → at t [] ≡ Some x → is_dir x ≡ true → IsOwn t [] (Some x) (Some (record { layer = t; path = [] })) false
+pub root_own : (t : Tree) (x : Node) → at t [] ≡ Some x → is_dir x ≡ true → IsOwnPlace t [] (Some x) (Some (record { layer = t; path = [] })) false
 root_own t x is dir = record {
   node_is = sym is;
   dir_is = sym (ap (option_and_then (dir_of t [])) is ∙ a_dir t [] x dir);
@@ -43,26 +44,26 @@ found_in t ok p n = by (at t p) refl
     by (Some (Symlink k)) e = none (Some (Symlink k)) e (λ d. cc)
     by (Some Whiteout) e = none (Some Whiteout) e (λ d. cc)
 
-module _ (t : Tree) (ok : IsLayer t) (p : Names) (node : Option Node) (dir : Option Directory) (hidden : Bool) (own : IsOwn t p node dir hidden) (n : List ℕ) (under : Bool) (hides_is : under ≡ (hidden || node_hides node)) where
+module _ (t : Tree) (ok : IsLayer t) (p : Names) (node : Option Node) (dir : Option Directory) (hidden : Bool) (own : IsOwnPlace t p node dir hidden) (n : List ℕ) (under : Bool) (hides_is : under ≡ (hidden || node_hides node)) where
   hidden_at : under ≡ hides t (p ++ n ∷ [])
   hidden_at = hides_is ∙ (λ i. own.hidden_is i || node_hides (own.node_is i)) ∙ sym (hides_snoc t n p [])
 
   found_at : option_and_then (λ (d : Directory). entry d n) dir ≡ found t (p ++ n ∷ [])
   found_at = ap (option_and_then (λ (d : Directory). entry d n)) own.dir_is ∙ found_in t ok p n
 
-  pub entry_none : option_and_then (λ (d : Directory). entry d n) dir ≡ None → IsOwn t (p ++ n ∷ []) None None under
+  pub entry_none : option_and_then (λ (d : Directory). entry d n) dir ≡ None → IsOwnPlace t (p ++ n ∷ []) None None under
   entry_none none = by (at t (p ++ n ∷ [])) refl (sym found_at ∙ none)
     where
-      by : (o : Option Node) → at t (p ++ n ∷ []) ≡ o → found t (p ++ n ∷ []) ≡ None → IsOwn t (p ++ n ∷ []) None None under
+      by : (o : Option Node) → at t (p ++ n ∷ []) ≡ o → found t (p ++ n ∷ []) ≡ None → IsOwnPlace t (p ++ n ∷ []) None None under
       by None e f = record { node_is = sym e; dir_is = sym (ap (option_and_then (dir_of t (p ++ n ∷ []))) e); hidden_is = hidden_at }
       by (Some x) e f =
           let no : ◌≡◌ {A = Option (Node × Option Directory)} (Some (x, dir_of t (p ++ n ∷ []) x)) None = ap (option_map (λ (y : Node). (y, dir_of t (p ++ n ∷ []) y))) (sym e) ∙ f in
           absurd (cc)
 
-  pub entry_some : (x : Node) (d : Option Directory) → option_and_then (λ (d : Directory). entry d n) dir ≡ Some (x, d) → IsOwn t (p ++ n ∷ []) (Some x) d under
+  pub entry_some : (x : Node) (d : Option Directory) → option_and_then (λ (d : Directory). entry d n) dir ≡ Some (x, d) → IsOwnPlace t (p ++ n ∷ []) (Some x) d under
   entry_some x d some = by (at t (p ++ n ∷ [])) refl (sym found_at ∙ some)
     where
-      by : (o : Option Node) → at t (p ++ n ∷ []) ≡ o → found t (p ++ n ∷ []) ≡ Some (x, d) → IsOwn t (p ++ n ∷ []) (Some x) d under
+      by : (o : Option Node) → at t (p ++ n ∷ []) ≡ o → found t (p ++ n ∷ []) ≡ Some (x, d) → IsOwnPlace t (p ++ n ∷ []) (Some x) d under
       by None e f =
           let no : ◌≡◌ {A = Option (Node × Option Directory)} None (Some (x, d)) = ap (option_map (λ (y : Node). (y, dir_of t (p ++ n ∷ []) y))) (sym e) ∙ f in
           absurd (cc)
@@ -77,7 +78,7 @@ module _ (t : Tree) (ok : IsLayer t) (p : Names) (node : Option Node) (dir : Opt
 
 -- ---- at the path
 
-module _ (t : Tree) (p : Names) (node : Option Node) (dir : Option Directory) (hidden : Bool) (own : IsOwn t p node dir hidden) where
+module _ (t : Tree) (p : Names) (node : Option Node) (dir : Option Directory) (hidden : Bool) (own : IsOwnPlace t p node dir hidden) where
   pub untouched_is : (not (is_some node) && not hidden) ≡ is_untouched t p
   untouched_is = λ i. not (is_some (own.node_is i)) && not (own.hidden_is i)
 

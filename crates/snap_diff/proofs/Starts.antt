@@ -1,5 +1,5 @@
 -- Where in a directory a page begins: what comes before is none of it.
-use Rattle.std.proofs.Common.{◌≡◌, ℕ, ◌+◌, Bool, true, false, cond, List, [], ◌∷◌, ◌++◌, length, drop, Option, Some, None, refl, sym, ap, ◌∙◌, append_assoc}
+use Rattle.std.proofs.Common.{◌≡◌, ℕ, Bool, true, false, cond, List, [], ◌∷◌, ◌++◌, length, drop, Option, Some, None, refl, sym, ap, ◌∙◌, append_assoc}
 use Rattle.std.specs.Prelude.{◌&&◌, not}
 use Rattle.std.specs.declared.cmp.Ordering.{Ordering}
 use Rattle.std.specs.declared.cmp.Ordering.TheVariants.{Less, Equal, Greater}
@@ -17,17 +17,17 @@ use Rattle.snap_layer.specs.Directory.{Directory, names_from}
 use Rattle.snap_layer.proofs.Inside.{cmp_front}
 use Rattle.snap_layer.proofs.Paths.{append-cancel, begins_rest}
 use Rattle.snap_merge.specs.Objects.{AreLayers}
-use Rattle.snap_merge.specs.Listing.{name_cmp}
+use Rattle.snap_layer.specs.Rows.{name_cmp}
 use Rattle.snap_diff.specs.declared.change.Change.{Change}
 use Rattle.snap_diff.specs.Changes.{bound_at, both_names, changes_below, is_merged, is_past, is_untouched, page_start, put_rows}
-use Rattle.snap_diff.specs.Places.{names_in, IsOwn}
+use Rattle.snap_diff.specs.Places.{directory_names, IsOwnPlace}
 use Rattle.snap_diff.proofs.Names.{own_names}
 use Rattle.snap_diff.proofs.Places.{shared_dir}
 use Rattle.snap_diff.proofs.Walks.{put_rows-append}
 use Rattle.snap_diff.proofs.Pages.{skipped}
 
 -- the name past a front
-get_rest : (p r : Names) → slice_get (p ++ r) (length p) ≡ slice_get r 0
+pub get_rest : (p r : Names) → slice_get (p ++ r) (length p) ≡ slice_get r 0
 get_rest [] r = refl
 get_rest (x ∷ p) r = get_rest p r
 
@@ -95,8 +95,8 @@ pub from_start : (k : ℕ) (t : Tree) (ts : List Tree) (most : ℕ) (after : Opt
 from_start k t ts most after rows p ns = left_out most after (page_start after p) (λ name. changes_below k t ts (p ++ name ∷ [])) (λ n out rs. skipped k t ts most after rs (p ++ n ∷ []) (before_start after p n out)) ns rows
 
 -- in a directory that the layer shares with the layers below its own names tell all changes
-pub shared_names : (k : ℕ) (t : Tree) (ts : List Tree) → AreLayers (t ∷ ts) → (p : Names) (node : Option Node) (dir : Option Directory) (hidden : Bool) → IsOwn t p node dir hidden → is_untouched t p ≡ false → is_merged t p ≡ true
-    → flat_map (λ name. changes_below k t ts (p ++ name ∷ [])) (names_in dir) ≡ flat_map (λ name. changes_below k t ts (p ++ name ∷ [])) (both_names ts (t ∷ ts) p)
+pub shared_names : (k : ℕ) (t : Tree) (ts : List Tree) → AreLayers (t ∷ ts) → (p : Names) (node : Option Node) (dir : Option Directory) (hidden : Bool) → IsOwnPlace t p node dir hidden → is_untouched t p ≡ false → is_merged t p ≡ true
+    → flat_map (λ name. changes_below k t ts (p ++ name ∷ [])) (directory_names dir) ≡ flat_map (λ name. changes_below k t ts (p ++ name ∷ [])) (both_names ts (t ∷ ts) p)
 shared_names k t ts ok p node dir hidden own touched merged =
-    ap (λ (d : Option Directory). flat_map (λ name. changes_below k t ts (p ++ name ∷ [])) (names_in d)) (shared_dir t p node dir hidden own touched merged)
+    ap (λ (d : Option Directory). flat_map (λ name. changes_below k t ts (p ++ name ∷ [])) (directory_names d)) (shared_dir t p node dir hidden own touched merged)
     ∙ own_names k t ts ok p merged

@@ -9,13 +9,13 @@ use Rattle.snap_layer.specs.declared.node.Node.{Node}
 use Rattle.snap_layer.specs.Tree.{Tree, at, hides, node_hides, IsDirAt}
 use Rattle.snap_merge.specs.declared.error.FsError.{FsError}
 use Rattle.snap_merge.specs.Objects.{Object, dir, file, symlink, seen, seen_over, is_shown_dir, AreLayers}
-use Rattle.snap_merge.specs.Walk.{walk, unless}
+use Rattle.snap_merge.specs.Walk.{walk_error, unless}
 use Rattle.snap_merge.specs.Listing.{names, names_of, gathered, listing}
 use Rattle.snap_merge.proofs.Hiding.{hides_snoc}
 use Rattle.snap_merge.proofs.Above.{nothing_seen, walk_to_seen}
 use Rattle.snap_diff.specs.declared.change.ChangeKind.{ChangeKind}
 use Rattle.snap_diff.specs.declared.change.Change.{Change}
-use Rattle.snap_diff.specs.Changes.{change_at, layer_change, row, both_names, inside, changes_below, is_after, page, is_untouched, put_row, put_rows}
+use Rattle.snap_diff.specs.Changes.{change_at, layer_change, told_change, both_names, if_directory, changes_below, is_after, page, is_untouched, put_row, put_rows}
 
 -- ---- the page
 
@@ -58,7 +58,7 @@ no_listing s ok p e is = by (seen s p) refl
     by : (o : Option Object) → seen s p ≡ o → names s p ≡ []
     by None o = no_names s ok p (ap is_shown_dir o)
     by (Some (dir mode)) o =
-        let walked : walk s p ≡ None = walk_to_seen s ok p (some_dir (seen s p) (ap is_shown_dir o)) in
+        let walked : walk_error s p ≡ None = walk_to_seen s ok p (some_dir (seen s p) (ap is_shown_dir o)) in
         let fine : listing s p ≡ Ok (names s p) = (λ i. unless (walked i) (names_of s p (o i))) in
         absurd (cc)
     by (Some (file mode content)) o = no_names s ok p (ap is_shown_dir o)
@@ -67,14 +67,14 @@ no_listing s ok p e is = by (seen s p) refl
 -- ---- where nothing changes
 
 -- a path that the layer leaves untouched has no change, whatever is seen
-no_change : (t : Tree) (ts : List Tree) (p : Names) → is_untouched t p ≡ true → row p (layer_change t ts p) ≡ []
-no_change t ts p e = ap (λ b. row p (cond b None (change_at (seen ts p) (seen (t ∷ ts) p)))) e
+no_change : (t : Tree) (ts : List Tree) (p : Names) → is_untouched t p ≡ true → told_change p (layer_change t ts p) ≡ []
+no_change t ts p e = ap (λ b. told_change p (cond b None (change_at (seen ts p) (seen (t ∷ ts) p)))) e
 
 -- at another one what is seen tells it
 touched : (t : Tree) (ts : List Tree) (p : Names) → is_untouched t p ≡ false → layer_change t ts p ≡ change_at (seen ts p) (seen (t ∷ ts) p)
 touched t ts p e = ap (λ b. cond b None (change_at (seen ts p) (seen (t ∷ ts) p))) e
 
-empty_inside : (o : Option Object) (cs : List Change) → cs ≡ [] → inside o cs ≡ []
+empty_inside : (o : Option Object) (cs : List Change) → cs ≡ [] → if_directory o cs ≡ []
 empty_inside None cs e = refl
 empty_inside (Some (dir mode)) cs e = e
 empty_inside (Some (file mode content)) cs e = refl
@@ -103,8 +103,8 @@ untouched_below zero t ts parents p none shown = refl
 untouched_below (suc k) t ts parents p none shown =
     let within : List Change = flat_map (λ name. changes_below k t ts (p ++ name ∷ [])) (both_names ts (t ∷ ts) p) in
     let next : (n : List ℕ) → changes_below k t ts (p ++ n ∷ []) ≡ [] = λ n. untouched_below k t ts parents (p ++ n ∷ []) (below_untouched t parents p n none) (hides_snoc t n p [] ∙ (λ i. shown i || node_hides (none i))) in
-    let here : row p (layer_change t ts p) ≡ [] = no_change t ts p (λ i. not (is_some (none i)) && not (shown i)) in
-    let there : inside (seen (t ∷ ts) p) within ≡ [] = empty_inside (seen (t ∷ ts) p) within (all_empty (λ name. changes_below k t ts (p ++ name ∷ [])) (both_names ts (t ∷ ts) p) next) in
+    let here : told_change p (layer_change t ts p) ≡ [] = no_change t ts p (λ i. not (is_some (none i)) && not (shown i)) in
+    let there : if_directory (seen (t ∷ ts) p) within ≡ [] = empty_inside (seen (t ∷ ts) p) within (all_empty (λ name. changes_below k t ts (p ++ name ∷ [])) (both_names ts (t ∷ ts) p) next) in
     λ i. here i ++ there i
 
 pub untouched : (k : ℕ) (t : Tree) (ts : List Tree) → AreLayers (t ∷ ts) → (p : Names) → is_untouched t p ≡ true → changes_below k t ts p ≡ []
@@ -138,8 +138,8 @@ pub nothing_below : (k : ℕ) (t : Tree) (ts : List Tree) (p : Names) → seen t
 unfolding changes_below
 nothing_below zero t ts p was is = refl
 nothing_below (suc k) t ts p was is =
-    (λ i. row p (cond (is_untouched t p) None (change_at (was i) (is i))) ++ inside (is i) (flat_map (λ name. changes_below k t ts (p ++ name ∷ [])) (both_names ts (t ∷ ts) p)))
-    ∙ ap (λ o. row p o ++ []) (nothing_else (is_untouched t p))
+    (λ i. told_change p (cond (is_untouched t p) None (change_at (was i) (is i))) ++ if_directory (is i) (flat_map (λ name. changes_below k t ts (p ++ name ∷ [])) (both_names ts (t ∷ ts) p)))
+    ∙ ap (λ o. told_change p o ++ []) (nothing_else (is_untouched t p))
 
 pub no_changes : (k : ℕ) (t : Tree) (ts : List Tree) → AreLayers (t ∷ ts) → (p : Names) → (IsPath p → ⊥) → changes_below k t ts p ≡ []
 no_changes k t ts ok p bad = nothing_below k t ts p (no_object ts ok.1 p bad) (no_object (t ∷ ts) ok p bad)
@@ -150,20 +150,20 @@ too_long p long is = let short = is.1 in omega arith
 -- ---- one path
 
 -- the changes at a path, and those in the directory that is seen there
-pub at_path : (k : ℕ) (t : Tree) (ts : List Tree) (p : Names) → (k ≡ 0 → ⊥) → changes_below k t ts p ≡ row p (layer_change t ts p) ++ inside (seen (t ∷ ts) p) (flat_map (λ name. changes_below (k - 1) t ts (p ++ name ∷ [])) (both_names ts (t ∷ ts) p))
+pub at_path : (k : ℕ) (t : Tree) (ts : List Tree) (p : Names) → (k ≡ 0 → ⊥) → changes_below k t ts p ≡ told_change p (layer_change t ts p) ++ if_directory (seen (t ∷ ts) p) (flat_map (λ name. changes_below (k - 1) t ts (p ++ name ∷ [])) (both_names ts (t ∷ ts) p))
 unfolding changes_below
 at_path zero t ts p more = absurd (more refl)
 at_path (suc k) t ts p more =
     let less : k ≡ suc k - 1 = omega arith in
-    ap (λ (m : ℕ). row p (layer_change t ts p) ++ inside (seen (t ∷ ts) p) (flat_map (λ name. changes_below m t ts (p ++ name ∷ [])) (both_names ts (t ∷ ts) p))) less
+    ap (λ (m : ℕ). told_change p (layer_change t ts p) ++ if_directory (seen (t ∷ ts) p) (flat_map (λ name. changes_below m t ts (p ++ name ∷ [])) (both_names ts (t ∷ ts) p))) less
 
-pub inside_dir : (o : Option Object) (cs : List Change) → is_shown_dir o ≡ true → inside o cs ≡ cs
+pub inside_dir : (o : Option Object) (cs : List Change) → is_shown_dir o ≡ true → if_directory o cs ≡ cs
 inside_dir None cs e = absurd (cc)
 inside_dir (Some (dir mode)) cs e = refl
 inside_dir (Some (file mode content)) cs e = absurd (cc)
 inside_dir (Some (symlink target)) cs e = absurd (cc)
 
-pub inside_none : (o : Option Object) (cs : List Change) → is_shown_dir o ≡ false → inside o cs ≡ []
+pub inside_none : (o : Option Object) (cs : List Change) → is_shown_dir o ≡ false → if_directory o cs ≡ []
 inside_none None cs e = refl
 inside_none (Some (dir mode)) cs e = absurd (cc)
 inside_none (Some (file mode content)) cs e = refl
@@ -178,30 +178,30 @@ none_deep (suc k) t ts p e = absurd (omega arith)
 -- the change at a path, and then those in the directory
 pub put_dir : (most : ℕ) (after : Option Names) (rows first all : List Change) (k : ℕ) (t : Tree) (ts : List Tree) (p : Names) (old new : Option Object) (kind : Option ChangeKind)
     → old ≡ seen ts p → new ≡ seen (t ∷ ts) p → kind ≡ change_at old new → is_shown_dir new ≡ true → (k ≡ 0 → ⊥) → is_untouched t p ≡ false
-    → first ≡ put_rows most after rows (row p kind)
+    → first ≡ put_rows most after rows (told_change p kind)
     → all ≡ put_rows most after first (flat_map (λ name. changes_below (k - 1) t ts (p ++ name ∷ [])) (both_names ts (t ∷ ts) p))
     → all ≡ put_rows most after rows (changes_below k t ts p)
 put_dir most after rows first all k t ts p old new kind was is told directory more touches one rest =
     let within : List Change = flat_map (λ name. changes_below (k - 1) t ts (p ++ name ∷ [])) (both_names ts (t ∷ ts) p) in
-    let same_row : row p kind ≡ row p (layer_change t ts p) = ap (row p) (told ∙ (λ i. change_at (was i) (is i)) ∙ sym (touched t ts p touches)) in
-    let same_inside : within ≡ inside (seen (t ∷ ts) p) within = sym (inside_dir (seen (t ∷ ts) p) within (ap is_shown_dir (sym is) ∙ directory)) in
+    let same_row : told_change p kind ≡ told_change p (layer_change t ts p) = ap (told_change p) (told ∙ (λ i. change_at (was i) (is i)) ∙ sym (touched t ts p touches)) in
+    let same_inside : within ≡ if_directory (seen (t ∷ ts) p) within = sym (inside_dir (seen (t ∷ ts) p) within (ap is_shown_dir (sym is) ∙ directory)) in
     rest
     ∙ ap (λ (rs : List Change). put_rows most after rs within) one
-    ∙ sym (put_rows-append most after rows (row p kind) within)
+    ∙ sym (put_rows-append most after rows (told_change p kind) within)
     ∙ (λ i. put_rows most after rows (same_row i ++ same_inside i))
     ∙ ap (put_rows most after rows) (sym (at_path k t ts p more))
 
 -- the change at a path that shows no directory
 pub put_other : (most : ℕ) (after : Option Names) (rows first : List Change) (k : ℕ) (t : Tree) (ts : List Tree) (p : Names) (old new : Option Object) (kind : Option ChangeKind)
     → old ≡ seen ts p → new ≡ seen (t ∷ ts) p → kind ≡ change_at old new → is_shown_dir new ≡ false → (k ≡ 0 → ⊥) → is_untouched t p ≡ false
-    → first ≡ put_rows most after rows (row p kind)
+    → first ≡ put_rows most after rows (told_change p kind)
     → first ≡ put_rows most after rows (changes_below k t ts p)
 put_other most after rows first k t ts p old new kind was is told other more touches one =
     let within : List Change = flat_map (λ name. changes_below (k - 1) t ts (p ++ name ∷ [])) (both_names ts (t ∷ ts) p) in
-    let same_row : row p kind ≡ row p (layer_change t ts p) = ap (row p) (told ∙ (λ i. change_at (was i) (is i)) ∙ sym (touched t ts p touches)) in
-    let nothing : [] ≡ inside (seen (t ∷ ts) p) within = sym (inside_none (seen (t ∷ ts) p) within (ap is_shown_dir (sym is) ∙ other)) in
+    let same_row : told_change p kind ≡ told_change p (layer_change t ts p) = ap (told_change p) (told ∙ (λ i. change_at (was i) (is i)) ∙ sym (touched t ts p touches)) in
+    let nothing : [] ≡ if_directory (seen (t ∷ ts) p) within = sym (inside_none (seen (t ∷ ts) p) within (ap is_shown_dir (sym is) ∙ other)) in
     one
-    ∙ ap (put_rows most after rows) (sym (append-nil (row p kind)))
+    ∙ ap (put_rows most after rows) (sym (append-nil (told_change p kind)))
     ∙ (λ i. put_rows most after rows (same_row i ++ nothing i))
     ∙ ap (put_rows most after rows) (sym (at_path k t ts p more))
 

@@ -1,5 +1,4 @@
 -- What a layer changes of what the layers below it show.
--- Cited by `ChangeKind::as_str`, `changes`, `pibroulez_run` and others.
 use Rattle.std.specs.Prelude.{ℕ, zero, suc, Bool, true, false, not, is_some, ◌==◌, ◌&&◌, nat_lt, if◌then◌else◌, List, [], ◌∷◌, ◌++◌, length, filter, take, codes, Option, Some, None}
 use Rattle.std.specs.List.{flat_map, slice_get}
 use Rattle.std.specs.declared.ops.Bound.{Bound}
@@ -51,25 +50,25 @@ change_word Changed = codes "changed"
 change_word Removed = codes "removed"
 
 -- the change at the path, if there is one
-abbrev pub row : Names → Option ChangeKind → List Change
-row p None = []
-row p (Some kind) = record { kind = kind; path = p } ∷ []
+abbrev pub told_change : Names → Option ChangeKind → List Change
+told_change p None = []
+told_change p (Some kind) = record { kind = kind; path = p } ∷ []
 
 -- the names in the directory at which something is seen or the layers below show something, each once and in byte order
 abbrev pub both_names : List Tree → List Tree → Names → Names
 both_names old new p = put_names (names old p) (put_names (names new p) [])
 
 -- what is in a directory; in what is no directory nothing is told
-abbrev pub inside : Option Object → List Change → List Change
-inside (Some (dir mode)) changes = changes
-inside other changes = []
+abbrev pub if_directory : Option Object → List Change → List Change
+if_directory (Some (dir mode)) changes = changes
+if_directory other changes = []
 
 -- the changes at the path and below it, at so many names in a row at the most: a directory before what is in it
 unfoldable pub changes_below : ℕ → Tree → List Tree → Names → List Change
 changes_below zero t ts p = []
 changes_below (suc n) t ts p =
-    row p (layer_change t ts p)
-    ++ inside (seen (t ∷ ts) p) (flat_map (λ name. changes_below n t ts (p ++ name ∷ [])) (both_names ts (t ∷ ts) p))
+    told_change p (layer_change t ts p)
+    ++ if_directory (seen (t ∷ ts) p) (flat_map (λ name. changes_below n t ts (p ++ name ∷ [])) (both_names ts (t ∷ ts) p))
 
 -- what the layer changes of what those below it show; a path has at most 2,047 names (PATH_MAX)
 abbrev pub changes : Tree → List Tree → List Change

@@ -6,7 +6,7 @@ ghost use Rattle.snap_path.specs.Text.{Names};
 ghost use Rattle.snap_layer.specs.Tree.{Tree, node_hides};
 ghost use Rattle.snap_layer.specs.Layers.{IsLayer};
 ghost use Rattle.snap_layer.specs.Directory.{entry, IsFirstName};
-ghost use Rattle.snap_diff.specs.Places.{names_in, IsOwn};
+ghost use Rattle.snap_diff.specs.Places.{directory_names, IsOwnPlace};
 
 use snap_layer::{Dir, Layer, Node};
 use snap_path::Name;
@@ -24,7 +24,7 @@ pub(crate) struct Own<'a> {
 impl<'a> Own<'a> {
     /// At the root.
     pub(crate) fn root(layer: &'a Layer) -> Own<'a>
-        ensures { IsOwn layer.now [] result.node result.dir result.hidden }
+        ensures { IsOwnPlace layer.now [] result.node result.dir result.hidden }
     {
         let dir = layer.root_dir();
         Own {
@@ -36,7 +36,7 @@ impl<'a> Own<'a> {
 
     /// At the name in the directory: the logarithm of its entries.
     pub(crate) fn entry(&self, name: &Name) -> Own<'a>
-        ensures { (t : Tree) (p : Names) → IsLayer t → IsOwn t p self.now.node self.now.dir self.now.hidden → IsOwn t (p ++ name.now ∷ []) result.node result.dir result.hidden }
+        ensures { (t : Tree) (p : Names) → IsLayer t → IsOwnPlace t p self.now.node self.now.dir self.now.hidden → IsOwnPlace t (p ++ name.now ∷ []) result.node result.dir result.hidden }
     {
         let hidden = self.hidden | self.hides();
         match self.find(name) {
@@ -65,7 +65,7 @@ impl<'a> Own<'a> {
 
     /// The first of the directory's names from the bound on: the logarithm of its entries.
     pub(crate) fn first_name(&self, from: Bound<&Name>) -> Option<&'a Name>
-        ensures { IsFirstName (bound_map (λ n. n.now) from.entry) (names_in self.now.dir) (option_copied result) }
+        ensures { IsFirstName (bound_map (λ n. n.now) from.entry) (directory_names self.now.dir) (option_copied result) }
     {
         match &self.dir {
             Some(dir) => dir.first_name(from),

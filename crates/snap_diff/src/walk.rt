@@ -1,12 +1,13 @@
 // The walk over what a layer changes.
-ghost use Rattle.std.specs.Prelude.{◌≡◌, [], ◌∷◌, ◌++◌, true, false, IfOk, OnOk};
+ghost use Rattle.std.specs.Prelude.{◌≡◌, ◌≤◌, [], ◌∷◌, ◌++◌, length, take, Some, true, false, IfOk, OnOk};
 ghost use Rattle.std.specs.Bound.{bound_map};
 ghost use Rattle.std.specs.Option.{option_copied};
 ghost use Rattle.std.specs.List.{flat_map};
 ghost use Rattle.snap_merge.specs.Objects.{seen, AreLayers};
 ghost use Rattle.snap_merge.specs.Listing.{names, put_names};
-ghost use Rattle.snap_diff.specs.Changes.{both_names, changes, changes_below, is_after, is_merged, is_past, is_untouched, page, page_start, put_rows, row};
-ghost use Rattle.snap_diff.specs.Places.{IsOwn};
+ghost use Rattle.snap_diff.specs.Changes.{both_names, changes, changes_below, is_after, is_merged, is_past, is_untouched, page, page_start, put_rows, told_change};
+ghost use Rattle.snap_layer.specs.Directory.{names_from};
+ghost use Rattle.snap_diff.specs.Places.{directory_names, IsOwnPlace};
 
 use crate::change::{Change, ChangeKind, change_at};
 use crate::own::Own;
@@ -59,8 +60,7 @@ impl<'a> Walk<'a> {
     fn show_are_layers(&self)
         ensures { AreLayers (self.now.layer.now ∷ self.now.lowers.now) }
     {
-        let layer = self.layer;
-        let _ = &layer.is_layer;
+        self.layer.root_dir();
         show_are_layers(self.lowers);
     }
 
@@ -105,7 +105,7 @@ impl<'a> Walk<'a> {
         path: &Path,
         rows: &mut Vec<Change>,
     ) -> Result<(), AllocError>
-        ensures { OnOk result (rows.new.items ≡ put_rows self.now.most (option_copied self.now.after) rows.old.items (row path.now kind)) }
+        ensures { OnOk result (rows.new.items ≡ put_rows self.now.most (option_copied self.now.after) rows.old.items (told_change path.now kind)) }
     {
         let Some(kind) = kind else {
             return Ok(());
@@ -154,7 +154,7 @@ impl<'a> Walk<'a> {
         depth: u64,
         rows: &mut Vec<Change>,
     ) -> Result<(), NoMemory>
-        requires { IsOwn self.now.layer.now path.now own.now.node own.now.dir own.now.hidden }
+        requires { IsOwnPlace self.now.layer.now path.now own.now.node own.now.dir own.now.hidden }
         ensures { OnOk result (rows.new.items ≡ put_rows self.now.most (option_copied self.now.after) rows.old.items (changes_below depth self.now.layer.now self.now.lowers.now path.now)) }
     {
         self.show_are_layers();
@@ -190,34 +190,33 @@ impl<'a> Walk<'a> {
         depth: u64,
         rows: &mut Vec<Change>,
     ) -> Result<(), NoMemory>
-        requires own { IsOwn self.now.layer.now path.now own.now.node own.now.dir own.now.hidden }
+        requires own { IsOwnPlace self.now.layer.now path.now own.now.node own.now.dir own.now.hidden }
         requires touched { is_untouched self.now.layer.now path.now ≡ false }
         ensures { OnOk result (rows.new.items ≡ put_rows self.now.most (option_copied self.now.after) rows.old.items (flat_map (λ name. changes_below depth self.now.layer.now self.now.lowers.now (path.now ++ name ∷ [])) (both_names self.now.lowers.now (self.now.layer.now ∷ self.now.lowers.now) path.now))) }
     {
+        self.show_are_layers();
         if own.is_merged() {
-            self.put_shared(alloc, path, own, depth, rows)
+            self.put_own(alloc, path, own, self.start(path), depth, rows)
         } else {
             self.put_both(alloc, path, own, depth, rows)
         }
     }
 
-    /// Keeps the changes in a directory that the layer shares with the layers below: its own names tell them all.
+    /// Keeps the changes at the directory's own names from the bound on.
     #[cycle(put_below)]
-    fn put_shared(
+    fn put_own(
         &self,
         alloc: Global,
         path: &Path,
         own: &Own<'a>,
+        from: Bound<&'a Name>,
         depth: u64,
         rows: &mut Vec<Change>,
     ) -> Result<(), NoMemory>
-        requires own { IsOwn self.now.layer.now path.now own.now.node own.now.dir own.now.hidden }
-        requires touched { is_untouched self.now.layer.now path.now ≡ false }
-        requires merged { is_merged self.now.layer.now path.now ≡ true }
-        ensures { OnOk result (rows.new.items ≡ put_rows self.now.most (option_copied self.now.after) rows.old.items (flat_map (λ name. changes_below depth self.now.layer.now self.now.lowers.now (path.now ++ name ∷ [])) (both_names self.now.lowers.now (self.now.layer.now ∷ self.now.lowers.now) path.now))) }
+        requires { IsOwnPlace self.now.layer.now path.now own.now.node own.now.dir own.now.hidden }
+        ensures { OnOk result (rows.new.items ≡ put_rows self.now.most (option_copied self.now.after) rows.old.items (flat_map (λ name. changes_below depth self.now.layer.now self.now.lowers.now (path.now ++ name ∷ [])) (names_from (bound_map (λ n. n.now) from.entry) (directory_names own.now.dir)))) }
     {
-        self.show_are_layers();
-        let mut from = self.start(path);
+        let mut from = from;
         while let Some(name) = own.first_name(from) {
             if rows.len() >= self.most {
                 return Ok(());
@@ -238,7 +237,7 @@ impl<'a> Walk<'a> {
         depth: u64,
         rows: &mut Vec<Change>,
     ) -> Result<(), NoMemory>
-        requires { IsOwn self.now.layer.now path.now own.now.node own.now.dir own.now.hidden }
+        requires { IsOwnPlace self.now.layer.now path.now own.now.node own.now.dir own.now.hidden }
         ensures { OnOk result (rows.new.items ≡ put_rows self.now.most (option_copied self.now.after) rows.old.items (flat_map (λ name. changes_below depth self.now.layer.now self.now.lowers.now (path.now ++ name ∷ [])) (both_names self.now.lowers.now (self.now.layer.now ∷ self.now.lowers.now) path.now))) }
     {
         let names = self.both_names(alloc, path)?;
@@ -262,7 +261,7 @@ impl<'a> Walk<'a> {
         depth: u64,
         rows: &mut Vec<Change>,
     ) -> Result<(), NoMemory>
-        requires { IsOwn self.now.layer.now directory.now own.now.node own.now.dir own.now.hidden }
+        requires { IsOwnPlace self.now.layer.now directory.now own.now.node own.now.dir own.now.hidden }
         ensures { OnOk result (rows.new.items ≡ put_rows self.now.most (option_copied self.now.after) rows.old.items (changes_below depth self.now.layer.now self.now.lowers.now (directory.now ++ name.now ∷ []))) }
     {
         self.show_are_layers();
@@ -271,6 +270,71 @@ impl<'a> Walk<'a> {
             Err(PathError::BadPath) => Ok(()),
             Err(PathError::OutOfMemory(no_memory)) => Err(no_memory),
         }
+    }
+
+    /// Keeps the changes at the first so many names of the path that the page begins after, and below them. A directory
+    /// there that the layer shares with the layers below comes before the page, and is neither looked at nor gets a path.
+    fn put_way(
+        &self,
+        alloc: Global,
+        after: &'a Path,
+        names: usize,
+        own: &Own<'a>,
+        depth: u64,
+        rows: &mut Vec<Change>,
+    ) -> Result<(), NoMemory>
+        requires after { option_copied self.now.after ≡ Some after.now }
+        requires within { names ≤ length after.now }
+        requires own { IsOwnPlace self.now.layer.now (take names after.now) own.now.node own.now.dir own.now.hidden }
+        ensures { OnOk result (rows.new.items ≡ put_rows self.now.most (option_copied self.now.after) rows.old.items (changes_below depth self.now.layer.now self.now.lowers.now (take names after.now))) }
+    {
+        self.show_are_layers();
+        if depth == 0 {
+            return Ok(());
+        }
+        if own.is_untouched() {
+            return Ok(());
+        }
+        if !own.is_merged() {
+            return self.put_below(alloc, &after.front(names)?, own, depth, rows);
+        }
+        let Some(place) = after.names().get(names) else {
+            return self.put_below(alloc, after, own, depth, rows);
+        };
+        let from = Bound::Included(place);
+        if let Some(first) = own.first_name(from) {
+            if first == place {
+                self.put_way(alloc, after, names + 1, &own.entry(place), depth - 1, rows)?;
+                let from = Bound::Excluded(first);
+                return self.put_rest(alloc, after, names, own, from, depth - 1, rows);
+            }
+        }
+        self.put_rest(alloc, after, names, own, from, depth - 1, rows)
+    }
+
+    /// Keeps the changes at the own names from the bound on in the directory at the first so many names of the path.
+    /// The directory gets a path where there is such a name, and room for its changes.
+    fn put_rest(
+        &self,
+        alloc: Global,
+        after: &Path,
+        names: usize,
+        own: &Own<'a>,
+        from: Bound<&'a Name>,
+        depth: u64,
+        rows: &mut Vec<Change>,
+    ) -> Result<(), NoMemory>
+        requires within { names ≤ length after.now }
+        requires own { IsOwnPlace self.now.layer.now (take names after.now) own.now.node own.now.dir own.now.hidden }
+        ensures { OnOk result (rows.new.items ≡ put_rows self.now.most (option_copied self.now.after) rows.old.items (flat_map (λ name. changes_below depth self.now.layer.now self.now.lowers.now (take names after.now ++ name ∷ [])) (names_from (bound_map (λ n. n.now) from.entry) (directory_names own.now.dir)))) }
+    {
+        if rows.len() >= self.most {
+            return Ok(());
+        }
+        if own.first_name(from).is_none() {
+            return Ok(());
+        }
+        self.put_own(alloc, &after.front(names)?, own, from, depth, rows)
     }
 }
 
@@ -285,8 +349,9 @@ impl<'a> Walk<'a> {
 ///
 /// It fails only where memory is refused: for names, for a path that is looked at or for the changes. Cost: a look at
 /// each path of the layer from the page's place on, and a list of each directory there of which it hides something, and
-/// a look at each name from that place on; the bytes of files that are compared. In a directory on the way to the place
-/// that hides nothing, names before it cost a logarithm together. The walk ends where the page is full.
+/// a look at each name from that place on; the bytes of files that are compared. A directory on the way to the place
+/// that hides nothing isn't looked at and costs a logarithm of its names, and the text of its path where a name comes
+/// after the place. The walk ends where the page is full.
 pub fn changes(
     alloc: Global,
     layer: &Layer,
@@ -302,9 +367,11 @@ pub fn changes(
         after,
         most,
     };
-    let root = Path::root(alloc);
     let own = Own::root(layer);
     let mut rows = Vec::new(alloc);
-    walk.put_below(alloc, &root, &own, MAX_DEPTH, &mut rows)?;
+    match after {
+        Some(after) => walk.put_way(alloc, after, 0, &own, MAX_DEPTH, &mut rows)?,
+        None => walk.put_below(alloc, &Path::root(alloc), &own, MAX_DEPTH, &mut rows)?,
+    }
     Ok(rows)
 }

@@ -1,5 +1,4 @@
 -- What is committed at the end of a journal: what was committed at its start, and one snapshot for each granted Commit.
--- Cited by `granted_commits`, `write_jobs_within`, `write_jobs` and others.
 use Rattle.std.specs.Prelude.{◌≡◌, ℕ, zero, suc, ◌+◌, ◌<◌, ◌==◌, if◌then◌else◌, List, [], ◌∷◌, All}
 use Rattle.std.specs.List.{AllByRecursion}
 use Rattle.snap_layer.specs.Tree.{Tree}

@@ -1,5 +1,4 @@
 -- What an entry makes of a namespace's charge, by its call and its reply alone.
--- Cited by `Shares::none`, `Book::opening_shares`.
 use Rattle.std.specs.Prelude.{ℕ, ◌+◌, min, Bool, false, if◌then◌else◌, List, [], ◌∷◌, Option, None, Some, bytes_eq, replicate, slice_index_or, slice_set}
 use Rattle.std.specs.Option.{option_map, option_map_or, is_some}
 use Rattle.snap_usage.specs.declared.usage.Usage.{Usage}

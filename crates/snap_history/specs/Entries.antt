@@ -1,5 +1,4 @@
 -- What is told of an entry of the journal.
--- Cited by `history`, `CallKind::as_str`, `call_kind` and others.
 use Rattle.std.specs.Prelude.{ℕ, List, Option, None, Some, codes}
 use Rattle.std.specs.Option.{option_or}
 use Rattle.snap_usage.specs.declared.usage.Usage.{Usage}

@@ -1,5 +1,4 @@
 -- The entries of a namespace, each with what the namespace is charged after it.
--- Cited by `history`, `entries_after`, `namespace_in` and others.
 use Rattle.std.specs.Prelude.{ℕ, ◌+◌, ◌==◌, Bool, false, nat_lt, if◌then◌else◌, List, [], ◌∷◌, filter, take, Option, None, Some, option_and_then}
 use Rattle.std.specs.Option.{option_map, option_map_or, option_or}
 use Rattle.snap_record.specs.Labels.{Bytes}

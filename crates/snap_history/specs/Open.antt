@@ -1,5 +1,4 @@
 -- What the open snapshots of a state are charged, each in the place of its slot.
--- Cited by `OpenShares::of`, `OpenShares::set`, `OpenShares::of_namespace` and others.
 use Rattle.std.specs.Prelude.{ℕ, zero, suc, ◌==◌, if◌then◌else◌, List, [], ◌∷◌, ◌++◌, map, Option, None, Some}
 use Rattle.std.specs.Option.{option_map}
 use Rattle.snap_usage.specs.declared.usage.Usage.{Usage}

@@ -2,6 +2,8 @@
 use Rattle.std.specs.Prelude.{if◌then◌else◌, IfErr, IsErrAnd, IfSome, OnOk, take}
 use Rattle.std.specs.Io.KnownBytes.{Appends, Keeps}
 use Rattle.std.proofs.Common.{◌≡◌, inl, inr, ℕ, Bool, true, false, List, [], ◌∷◌, ◌++◌, Option, None, Some, Result, Ok, Err, refl, sym, ap, ◌∙◌, subst, append-nil, length, arith, take_all}
+use Rattle.snap_path.specs.Memory.{no_memory}
+use Rattle.snap_path.specs.declared.memory.NoMemory.{NoMemory}
 use Rattle.snap_call.specs.Results.{◌>>=◌}
 use Rattle.snap_round.specs.declared.rule.Round.{Round}
 use Rattle.snap_tape.specs.Tapes.{SessionValue}
@@ -12,8 +14,12 @@ use Rattle.snap_store.specs.declared.cause.Cause.TheVariants as causes
 use Rattle.snap_writers.specs.declared.job.Job.{Job}
 use Rattle.snap_writers.specs.declared.job.RunFault.{RunFault}
 use Rattle.snap_writers.specs.declared.job.RunFault.TheVariants as faults
+use Rattle.snap_writers.specs.declared.job.Ended.{Ended}
 use Rattle.snap_writers.specs.Starting.{AreBack, IsFault}
+use Rattle.snap_writers.proofs.Reporting.{back_weaker}
 use Rattle.snap_script.specs.declared.fault.Fault.{Fault}
+use Rattle.snap_script.specs.declared.fault.Shortage.{Shortage}
+use Rattle.snap_script.specs.declared.fault.Shortage.TheVariants.{Allocator}
 use Rattle.snap_script.specs.declared.fault.Fault.TheVariants.{TooLong}
 use Rattle.snap_lines.specs.Effects.{Effect}
 use Rattle.snap_lines.specs.Lines.{feeds, lines_of, without_feed}
@@ -21,7 +27,7 @@ use Rattle.snap_lines.specs.Runs.{Breaks}
 use Rattle.snap_lines.specs.declared.stop.LineFault.{LineFault}
 use Rattle.snap_lines.specs.declared.stop.Stop.{Stop}
 use Rattle.snap_lines.specs.declared.stop.Stop.TheVariants.{Line, InputFailed, OutputFailed, OutOfMemory}
-use Rattle.snap_lines.specs.Transcripts.{Place, Stops, Tells, Transcript, cut, effect_at, effect_within, max_bytes, first_lines, goes_on, is_over_limit, place_after, start, transcript, transcript_from}
+use Rattle.snap_lines.specs.Transcripts.{Place, Stops, Tells, Transcript, cut_length, effect_at, effect_within, max_bytes, first_lines, goes_on, is_over_limit, place_after, start, transcript, transcript_from}
 use Rattle.snap_jobs.specs.Answer.{HasBroken, HasLacked, HasNoReport, HasNoText, JobsHaveStopped, HasWritten, HasWrittenPart, IsText, unclosed_stop}
 use Rattle.snap_script.specs.declared.unknown.FieldRule.{FieldRule}
 use Rattle.snap_jobs.specs.Lines.{LinesValue, ReadValue, jobs_effect, read_after_line, unread}
@@ -43,7 +49,7 @@ unfolding jobs_effect
 silent lines bytes = silent_by lines.fields (read_after_line lines.fields lines.read bytes)
 
 silent_within : (left : Option ℕ) (read : LinesValue) (line : List ℕ) → IsSilent (effect_within jobs_effect left read line)
-silent_within None read line = silent read (take cut (without_feed line))
+silent_within None read line = silent read (take cut_length (without_feed line))
 silent_within (Some left) read line = by (is_over_limit left line)
   where
     by : (b : Bool) → IsSilent (if b then Err TooLong else jobs_effect read (without_feed line))
@@ -81,7 +87,7 @@ was_read rule None lines read e h = tt
 was_read rule (Some bytes) lines read e h = ap (λ (v : LinesValue). v.read) h ∙ sym e
 
 -- where all lines were read, and then the text was written
-written_then : (told : Bool) (rule : FieldRule) (remaining : Option (List ℕ)) (read : Option ReadValue) (before mid after : Option (List ℕ))
+written_then : (told : JobOptions) (rule : FieldRule) (remaining : Option (List ℕ)) (read : Option ReadValue) (before mid after : Option (List ℕ))
     → IfSome remaining (λ bytes. Tells (transcript (Some max_bytes) jobs_effect (unread rule) bytes) None before mid) → IfSome remaining (λ bytes. (transcript (Some max_bytes) jobs_effect (unread rule) bytes).value.read ≡ read)
     → HasWritten told read 0 mid after → IfSome remaining (λ bytes. HasWritten told (transcript (Some max_bytes) jobs_effect (unread rule) bytes).value.read 0 before after)
 written_then told rule None read before mid after tells value wrote = tt
@@ -89,7 +95,7 @@ written_then told rule (Some bytes) read before mid after tells value (text, is,
     subst (λ (v : Option ReadValue). HasWritten told v 0 before after) (sym value)
     (text, is, appends_after before mid after text (subst (Appends before mid) (none_written (unread rule) bytes) tells.1) wrote)
 
-pub written : {E : Type 0} (told : Bool) (rule : FieldRule) (r : Result Unit E) (remaining : Option (List ℕ)) (read : Option ReadValue) (before mid after : Option (List ℕ))
+pub written : {E : Type 0} (told : JobOptions) (rule : FieldRule) (r : Result Unit E) (remaining : Option (List ℕ)) (read : Option ReadValue) (before mid after : Option (List ℕ))
     → IfSome remaining (λ bytes. Tells (transcript (Some max_bytes) jobs_effect (unread rule) bytes) None before mid) → IfSome remaining (λ bytes. (transcript (Some max_bytes) jobs_effect (unread rule) bytes).value.read ≡ read)
     → OnOk r (HasWritten told read 0 mid after) → OnOk r (IfSome remaining (λ bytes. HasWritten told (transcript (Some max_bytes) jobs_effect (unread rule) bytes).value.read 0 before after))
 written told rule (Ok done) remaining read before mid after tells value wrote = written_then told rule remaining read before mid after tells value wrote
@@ -117,18 +123,22 @@ pub lines_stopped : (options : JobOptions) (remaining left : Option (List ℕ)) 
 lines_stopped options None left stop before after h = tt
 lines_stopped options (Some bytes) left stop before after h = stopped_at options bytes left stop before after h
 
+-- want of memory has one value
+only_memory : (want : NoMemory) → ◌≡◌ {A = Shortage} (Allocator want) (Allocator no_memory)
+only_memory want = refl
+
 -- a store that can't be closed for this cause ends the run of the jobs so
-pub unclosed : (workers : ℕ) (r : Round) (jobs : List Job) (sessions : List SessionValue) (cause : Cause) → AreBack r.opening.layer_inodes jobs workers sessions → HasCause r sessions cause → HasNoReport workers r jobs (unclosed_stop cause)
-unclosed workers r jobs sessions (causes.OutOfMemory want) back has = tt
-unclosed workers r jobs sessions (causes.StillOut snapshots) back has = (sessions, causes.StillOut snapshots, back, has, refl)
-unclosed workers r jobs sessions causes.SessionsMissing back has = (sessions, causes.SessionsMissing, back, has, refl)
-unclosed workers r jobs sessions (causes.TapeMismatch mismatch) back has = (sessions, causes.TapeMismatch mismatch, back, has, refl)
+unclosed : (workers : ℕ) (r : Round) (jobs : List Job) (sessions : List SessionValue) (ends : List Ended) (cause : Cause) → AreBack (λ worker. ⊥) r.opening.layer_inodes jobs workers sessions ends → HasCause r sessions cause → HasNoReport workers r jobs (unclosed_stop cause)
+unclosed workers r jobs sessions ends (causes.OutOfMemory want) back has = only_memory want
+unclosed workers r jobs sessions ends (causes.StillOut snapshots) back has = (sessions, ends, causes.StillOut snapshots, back, has, refl)
+unclosed workers r jobs sessions ends causes.SessionsMissing back has = (sessions, ends, causes.SessionsMissing, back, has, refl)
+unclosed workers r jobs sessions ends (causes.TapeMismatch mismatch) back has = (sessions, ends, causes.TapeMismatch mismatch, back, has, refl)
 
 -- the store of the jobs comes back, since it can't be closed
-pub not_closed : {N : Type 0} (r : Round) (jobs : List Job) (workers : ℕ) (fault : RunFault N) (back : NotClosedStore N) → fault ≡ faults.NotClosed back → IsFault r jobs workers fault → HasNoReport workers r jobs (unclosed_stop back.cause)
-not_closed r jobs workers fault back is of =
-    let at = subst (IsFault r jobs workers) is of in
-    unclosed workers r jobs back.sessions.items back.cause at.1 at.3
+pub not_closed : {N : Type 0} (S : ℕ → Type 0) (never : (worker : ℕ) → S worker → ⊥) (r : Round) (jobs : List Job) (workers : ℕ) (fault : RunFault N) (ends : List Ended) (back : NotClosedStore N) → fault ≡ faults.NotClosed ends back → IsFault S r jobs workers fault → HasNoReport workers r jobs (unclosed_stop back.cause)
+not_closed S never r jobs workers fault ends back is of =
+    let at = subst (IsFault S r jobs workers) is of in
+    unclosed workers r jobs back.sessions.items ends back.cause (back_weaker S (λ worker. ⊥) never r.opening.layer_inodes jobs workers back.sessions.items ends at.1) at.3
 
 -- a run's end without a report is that of what was read
 pub no_report : {A : Type 0} (result : Result A JobsStop) (stop : JobsStop) (workers : ℕ) (r s : Round) (jobs read : List Job) → IsErrAnd result (λ e. e ≡ stop) → r ≡ s → jobs ≡ read → HasNoReport workers r jobs stop → IfErr result (λ e. HasNoReport workers s read e)
@@ -150,10 +160,10 @@ no_input workers (Some read) none = none
 broken_at : (options : JobOptions) (bytes : List ℕ) (left : Option (List ℕ)) (read : Option ReadValue) (stop : JobsStop) (before mid after : Option (List ℕ)) → (transcript (Some max_bytes) jobs_effect (unread options.fields) bytes).value.read ≡ read → (transcript (Some max_bytes) jobs_effect (unread options.fields) bytes).fault ≡ None → Appends before mid [] → HasBroken options read stop mid after → JobsHaveStopped options bytes left stop before after
 broken_at options bytes left read (Lines (Line f)) before mid after value fault none broke = absurd (no_line options.workers read f broke.0)
 broken_at options bytes left read (Lines InputFailed) before mid after value fault none broke = absurd (no_input options.workers read broke.0)
-broken_at options bytes left read (Lines OutputFailed) before mid after value fault none (text, lacking, n, is, wrote) = inr (fault, subst (λ (v : Option ReadValue). HasWrittenPart options.ends v before after) (sym value) (text, lacking, n, is, appends_after before mid after (take n text) none wrote))
+broken_at options bytes left read (Lines OutputFailed) before mid after value fault none (text, lacking, n, is, wrote) = inr (fault, subst (λ (v : Option ReadValue). HasWrittenPart options v before after) (sym value) (text, lacking, n, is, appends_after before mid after (take n text) none wrote))
 broken_at options bytes left read (Lines (OutOfMemory want)) before mid after value fault none broke = subst (λ (o : Option (List ℕ)). Appends before o []) (sym broke.1) none
 broken_at options bytes left read NotClosed before mid after value fault none broke = (fault, subst (λ (v : Option ReadValue). HasNoText options.workers v NotClosed) (sym value) broke.0, subst (λ (o : Option (List ℕ)). Appends before o []) (sym broke.1) none)
-broken_at options bytes left read (WantOfMemory jobs all) before mid after value fault none (some, count, (text, is, wrote)) = (fault, subst (λ (v : Option ReadValue). HasLacked options.ends v jobs all before after) (sym value) (some, count, (text, is, appends_after before mid after text none wrote)))
+broken_at options bytes left read (WantOfMemory jobs all) before mid after value fault none (some, count, (text, is, wrote)) = (fault, subst (λ (v : Option ReadValue). HasLacked options v jobs all before after) (sym value) (some, count, (text, is, appends_after before mid after text none wrote)))
 
 pub broken : (options : JobOptions) (r : Result Unit JobsStop) (remaining left : Option (List ℕ)) (read : Option ReadValue) (before mid after : Option (List ℕ))
     → IfSome remaining (λ bytes. Tells (transcript (Some max_bytes) jobs_effect (unread options.fields) bytes) None before mid) → IfSome remaining (λ bytes. (transcript (Some max_bytes) jobs_effect (unread options.fields) bytes).value.read ≡ read)
@@ -163,7 +173,7 @@ broken options (Err stop) None left read before mid after tells value broke = tt
 broken options (Err stop) (Some bytes) left read before mid after tells value broke = broken_at options bytes left read stop before mid after value tells.0 (subst (Appends before mid) (none_written (unread options.fields) bytes) tells.1) broke
 
 -- where the text is not written whole
-pub text_broken : (options : JobOptions) (read : Option ReadValue) (lacking : ℕ) (text : List ℕ) (stop : Stop) (before after : Option (List ℕ)) → IsText options.ends read lacking text → Breaks text stop before after → HasBroken options read (Lines stop) before after
+pub text_broken : (options : JobOptions) (read : Option ReadValue) (lacking : ℕ) (text : List ℕ) (stop : Stop) (before after : Option (List ℕ)) → IsText options read lacking text → Breaks text stop before after → HasBroken options read (Lines stop) before after
 text_broken options read lacking text (Line f) before after is broke = absurd broke
 text_broken options read lacking text InputFailed before after is broke = absurd broke
 text_broken options read lacking text OutputFailed before after is (n, wrote) = (text, lacking, n, is, wrote)

@@ -1,9 +1,9 @@
 -- What a run of jobs is answered.
--- Cited by `write_jobs_within`, `write_jobs`.
 use Rattle.std.specs.Prelude.{◌≡◌, ◌⊎◌, ◌<◌, ℕ, Bool, true, false, ◌&&◌, not, List, [], ◌++◌, length, map, take, Option, Some, None, unwrap_or}
 use Rattle.std.specs.Io.KnownBytes.{Appends, Consumes}
 use Rattle.std.specs.List.{count_by}
 use Rattle.std.specs.Option.{option_map}
+use Rattle.snap_path.specs.Memory.{no_memory}
 use Rattle.snap_usage.specs.declared.usage.Usage.{Usage}
 use Rattle.snap_usage.specs.Counted.{no_usage}
 use Rattle.snap_record.specs.Labels.{Bytes}
@@ -64,26 +64,26 @@ abbrev pub ends_text : Bool → List Ended → List ℕ
 ends_text true ends = end_lines 1 ends
 ends_text false ends = []
 
--- the text is that of some report of the jobs on a store of this round: the jobs' ends, where they are told, and last the line of the answer. So many jobs lacked memory
-pub record IsTextOf (told : Bool) (r : Round) (jobs : List Job) (names : List Bytes) (lacking : ℕ) (text : List ℕ) : Type 0 where
+-- the text is that of some report of the jobs, by so many workers on a store of this round, of whom none was stopped: the jobs' ends, where they are told, and last the line of the answer. So many jobs lacked memory
+pub record IsTextOf (options : JobOptions) (r : Round) (jobs : List Job) (names : List Bytes) (lacking : ℕ) (text : List ℕ) : Type 0 where
   pub ends : List Ended
   pub closed : BookValue
-  pub report : IsReport r jobs ends closed
+  pub report : IsReport (λ worker. ⊥) r jobs options.workers ends closed
   pub count : lacking ≡ count_by wants_memory ends
-  pub lines : text ≡ ends_text told ends ++ answer_line (answer_of ends closed names)
+  pub lines : text ≡ ends_text options.ends ends ++ answer_line (answer_of ends closed names)
 
 -- what is written, by what was read: nothing where no line has opened a store, and else the text of a report of the jobs, of which so many lacked memory
-abbrev pub IsText : Bool → Option ReadValue → ℕ → List ℕ → Type 0
-IsText told None lacking text = (lacking ≡ 0) × (text ≡ [])
-IsText told (Some read) lacking text = IsTextOf told read.round read.jobs read.names lacking text
+abbrev pub IsText : JobOptions → Option ReadValue → ℕ → List ℕ → Type 0
+IsText options None lacking text = (lacking ≡ 0) × (text ≡ [])
+IsText options (Some read) lacking text = IsTextOf options read.round read.jobs read.names lacking text
 
 -- the text is written
-abbrev pub HasWritten : Bool → Option ReadValue → ℕ → Option (List ℕ) → Option (List ℕ) → Type 0
-HasWritten told read lacking before after = (text : List ℕ) × IsText told read lacking text × Appends before after text
+abbrev pub HasWritten : JobOptions → Option ReadValue → ℕ → Option (List ℕ) → Option (List ℕ) → Type 0
+HasWritten options read lacking before after = (text : List ℕ) × IsText options read lacking text × Appends before after text
 
 -- a write failed, and a first part of the text is written
-abbrev pub HasWrittenPart : Bool → Option ReadValue → Option (List ℕ) → Option (List ℕ) → Type 0
-HasWrittenPart told read before after = (text : List ℕ) × (lacking n : ℕ) × IsText told read lacking text × Appends before after (take n text)
+abbrev pub HasWrittenPart : JobOptions → Option ReadValue → Option (List ℕ) → Option (List ℕ) → Type 0
+HasWrittenPart options read before after = (text : List ℕ) × (lacking n : ℕ) × IsText options read lacking text × Appends before after (take n text)
 
 -- how many jobs were read
 abbrev pub job_count : Option ReadValue → ℕ
@@ -91,8 +91,8 @@ job_count None = 0
 job_count (Some read) = length read.jobs
 
 -- the text is written, and so many of all jobs lacked memory, at least one
-abbrev pub HasLacked : Bool → Option ReadValue → ℕ → ℕ → Option (List ℕ) → Option (List ℕ) → Type 0
-HasLacked told read lacking all before after = (0 < lacking) × (all ≡ job_count read) × HasWritten told read lacking before after
+abbrev pub HasLacked : JobOptions → Option ReadValue → ℕ → ℕ → Option (List ℕ) → Option (List ℕ) → Type 0
+HasLacked options read lacking all before after = (0 < lacking) × (all ≡ job_count read) × HasWritten options read lacking before after
 
 -- how a run of jobs ends whose store can't be closed for the cause
 abbrev pub unclosed_stop : Cause → JobsStop
@@ -101,13 +101,13 @@ unclosed_stop (causes.StillOut snapshots) = NotClosed
 unclosed_stop causes.SessionsMissing = NotClosed
 unclosed_stop (causes.TapeMismatch mismatch) = NotClosed
 
--- so many workers have run the jobs on a store of this round and given their sessions back, and the store can't be closed for a cause that ends the run so
+-- so many workers, of whom none was stopped, have run the jobs on a store of this round and given their sessions and some ends back, and the store can't be closed for a cause that ends the run so
 abbrev pub IsUnclosed : ℕ → Round → List Job → JobsStop → Type 0
-IsUnclosed workers r jobs stop = (sessions : List SessionValue) × (cause : Cause) × AreBack r.opening.layer_inodes jobs workers sessions × HasCause r sessions cause × (stop ≡ unclosed_stop cause)
+IsUnclosed workers r jobs stop = (sessions : List SessionValue) × (ends : List Ended) × (cause : Cause) × AreBack (λ worker. ⊥) r.opening.layer_inodes jobs workers sessions ends × HasCause r sessions cause × (stop ≡ unclosed_stop cause)
 
--- a run of the jobs has no report: memory was refused, of which nothing more is said, or the store can't be closed
+-- a run of the jobs has no report: an allocator refused memory, or the store can't be closed
 abbrev pub HasNoReport : ℕ → Round → List Job → JobsStop → Type 0
-HasNoReport workers r jobs (Lines (OutOfMemory want)) = Unit {0}
+HasNoReport workers r jobs (Lines (OutOfMemory want)) = want ≡ Allocator no_memory
 HasNoReport workers r jobs NotClosed = IsUnclosed workers r jobs NotClosed
 HasNoReport workers r jobs stop = ⊥
 
@@ -118,15 +118,15 @@ HasNoText workers (Some read) stop = HasNoReport workers read.round read.jobs st
 
 -- where that ends otherwise: jobs lacked memory; or there is no text, and nothing is written; or a write failed, and a first part of the text is
 abbrev pub HasBroken : JobOptions → Option ReadValue → JobsStop → Option (List ℕ) → Option (List ℕ) → Type 0
-HasBroken options read (WantOfMemory jobs all) before after = HasLacked options.ends read jobs all before after
-HasBroken options read (Lines OutputFailed) before after = HasWrittenPart options.ends read before after
+HasBroken options read (WantOfMemory jobs all) before after = HasLacked options read jobs all before after
+HasBroken options read (Lines OutputFailed) before after = HasWrittenPart options read before after
 HasBroken options read stop before after = HasNoText options.workers read stop × (after ≡ before)
 
 -- where it ends otherwise over these bytes, of which the input has some left. A line's fault is the one that the lines have. Where jobs lacked memory, no line has a fault, and the text is written. Where the store can't be closed, no line has a fault, and nothing is written. Where a read failed, no line whose line feed was read has a fault, and nothing is written; nor is it where memory was refused. Where a write failed, nothing is, or no line has a fault, and a first part of the text is
 abbrev pub JobsHaveStopped : JobOptions → List ℕ → Option (List ℕ) → JobsStop → Option (List ℕ) → Option (List ℕ) → Type 0
-JobsHaveStopped options bytes left (WantOfMemory jobs all) before after = ((jobs_transcript options.fields bytes).fault ≡ None) × HasLacked options.ends (jobs_transcript options.fields bytes).value.read jobs all before after
+JobsHaveStopped options bytes left (WantOfMemory jobs all) before after = ((jobs_transcript options.fields bytes).fault ≡ None) × HasLacked options (jobs_transcript options.fields bytes).value.read jobs all before after
 JobsHaveStopped options bytes left NotClosed before after = ((jobs_transcript options.fields bytes).fault ≡ None) × HasNoText options.workers (jobs_transcript options.fields bytes).value.read NotClosed × Appends before after []
 JobsHaveStopped options bytes left (Lines (Line f)) before after = ((jobs_transcript options.fields bytes).fault ≡ Some f) × Appends before after []
 JobsHaveStopped options bytes left (Lines InputFailed) before after = (read : List ℕ) × Consumes (Some bytes) left read × ((first_lines (Some max_bytes) jobs_effect (unread options.fields) bytes (feeds read)).fault ≡ None) × Appends before after []
-JobsHaveStopped options bytes left (Lines OutputFailed) before after = Appends before after [] ⊎ (((jobs_transcript options.fields bytes).fault ≡ None) × HasWrittenPart options.ends (jobs_transcript options.fields bytes).value.read before after)
+JobsHaveStopped options bytes left (Lines OutputFailed) before after = Appends before after [] ⊎ (((jobs_transcript options.fields bytes).fault ≡ None) × HasWrittenPart options (jobs_transcript options.fields bytes).value.read before after)
 JobsHaveStopped options bytes left (Lines (OutOfMemory want)) before after = Appends before after []

@@ -1,5 +1,4 @@
 -- How each job ended, a line for each: JSON, the keys of each object in byte order; and which jobs were refused memory.
--- Cited by `write_jobs_within`, `write_jobs`.
 use Rattle.std.specs.Prelude.{ℕ, ◌+◌, Bool, true, false, List, [], ◌∷◌, ◌++◌, codes}
 use Rattle.serde_json.specs.Data.{Data, boolean, string, object, member}
 use Rattle.serde_json.specs.Written.{compact_text}

@@ -1,6 +1,5 @@
 -- What the line of a job is; cited by the public clause of `JobLines::take_line` through Lines.antt. The fields are
 -- tested in the order in which they stand.
--- Cited by `JobLines as TakeLine`, `write_jobs_within`, `write_jobs`.
 use Rattle.std.specs.Prelude.{ℕ, if◌then◌else◌, List, Some, Result, Ok, Err, codes}
 use Rattle.std.specs.Str.{bytes_eq}
 use Rattle.serde_json.specs.Data.{Data}

@@ -1,5 +1,4 @@
 -- What the lines of a script of jobs say; cited by the public clauses of `JobLines`.
--- Cited by `JobLines::new`, `JobLines as TakeLine`, `write_jobs_within` and others.
 use Rattle.std.specs.Prelude.{ℕ, if◌then◌else◌, List, [], ◌∷◌, ◌++◌, length, map, nat_lt, Option, Some, None, Result, Ok, Err}
 use Rattle.std.specs.Option.{option_map_or}
 use Rattle.snap_record.specs.Labels.{Bytes}

@@ -1,5 +1,4 @@
 -- What an end is called, and the status of the program; cited by the public clauses of `JobsStop`.
--- Cited by `JobsStop::status`, `JobsStop as Display`.
 use Rattle.std.specs.Prelude.{ℕ, List, ◌++◌, codes, decimal}
 use Rattle.snap_lines.specs.Words as lines
 use Rattle.snap_jobs.specs.declared.stop.JobsStop.{JobsStop}

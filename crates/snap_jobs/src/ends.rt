@@ -4,7 +4,7 @@ ghost use Rattle.std.specs.List.{count_by};
 ghost use Rattle.serde_json.specs.Data.{string};
 ghost use Rattle.snap_json.specs.Tokens.{with_value};
 ghost use Rattle.snap_script.specs.Answers.{number_data, usage_data};
-ghost use Rattle.snap_script.specs.Written.{with_member};
+ghost use Rattle.snap_script.specs.Written.{member_tokens};
 ghost use Rattle.snap_writers.specs.declared.job.Ended.TheVariants.{Committed, Discarded};
 ghost use Rattle.snap_jobs.specs.Ends.{refused_call_data, end_data, end_line, end_lines, failure_name, is_failed_memory, is_file_memory, is_refused_memory, operation_data, uncalled_data, wants_memory};
 
@@ -18,7 +18,7 @@ use std::alloc::{AllocError, Global};
 
 // A member of the object that is open: a number.
 fn number_member(out: &mut Writer, key: &str, n: u64) -> Result<(), AllocError>
-    ensures { OnOk result (out.new ≡ with_member key.now (number_data n) out.old) }
+    ensures { OnOk result (out.new ≡ member_tokens key.now (number_data n) out.old) }
 {
     out.token(Token::Key(key))?;
     out.number(n)
@@ -26,7 +26,7 @@ fn number_member(out: &mut Writer, key: &str, n: u64) -> Result<(), AllocError>
 
 // The same, a text.
 fn text_member(out: &mut Writer, key: &str, value: &str) -> Result<(), AllocError>
-    ensures { OnOk result (out.new ≡ with_member key.now (string value.now) out.old) }
+    ensures { OnOk result (out.new ≡ member_tokens key.now (string value.now) out.old) }
 {
     out.token(Token::Key(key))?;
     out.token(Token::String(value))
@@ -34,7 +34,7 @@ fn text_member(out: &mut Writer, key: &str, value: &str) -> Result<(), AllocErro
 
 // The same, blocks, then inodes.
 fn usage_member(out: &mut Writer, key: &str, amount: Usage) -> Result<(), AllocError>
-    ensures { OnOk result (out.new ≡ with_member key.now (usage_data amount) out.old) }
+    ensures { OnOk result (out.new ≡ member_tokens key.now (usage_data amount) out.old) }
 {
     out.token(Token::Key(key))?;
     out.token(Token::BeginArray)?;

@@ -38,6 +38,8 @@ pub struct JobOptions {
 struct OpenGate;
 
 impl Gate for OpenGate {
+    ghost answers = { λ _ _ _ passes. passes ≡ true };
+
     fn pass(&self, _worker: u32, _step: u32) -> bool {
         true
     }
@@ -57,7 +59,7 @@ fn stop_of<N: RoundName>(back: &NotClosed<N>) -> JobsStop
     }
 }
 
-// Runs the jobs. A report comes also where a gate has stopped a worker, which an open one does not.
+// Runs the jobs, through a gate that stops no worker.
 fn report_of<N: RoundName + Send + Sync, T: Threads + Wait + Sync>(
     rt: &T,
     alloc: Global,
@@ -66,17 +68,17 @@ fn report_of<N: RoundName + Send + Sync, T: Threads + Wait + Sync>(
     workers: u32,
 ) -> Result<Report<N>, JobsStop>
     requires { (1 ≤ workers) × (workers ≤ 16) }
-    ensures report { IfOk result (λ report. IsReport store jobs.now report.ends report.closed) }
+    ensures report { IfOk result (λ report. IsReport (λ worker. ⊥) store jobs.now workers report.ends report.closed) }
     ensures stop { IfErr result (λ stop. HasNoReport workers store jobs.now stop) }
 {
     match run_jobs(rt, alloc, store, jobs, workers, &OpenGate) {
         Ok(report) => Ok(report),
-        Err(RunFault::GateClosed { worker: _, report }) => Ok(report),
+        Err(RunFault::GateClosed { .. }) => unreachable!(),
         Err(RunFault::BadWorkers(_)) => unreachable!(),
         Err(RunFault::OutOfMemory(_, no_memory)) => {
             Err(JobsStop::Lines(Stop::OutOfMemory(Shortage::Allocator(no_memory))))
         }
-        Err(RunFault::NotClosed(back)) => Err(stop_of(&back)),
+        Err(RunFault::NotClosed { ends: _, back }) => Err(stop_of(&back)),
     }
 }
 
@@ -109,17 +111,16 @@ fn told_of<N: RoundName + Send + Sync, T: Threads + Wait + Sync>(
     rt: &T,
     alloc: Global,
     read: Read<N>,
-    workers: u32,
-    ends: bool,
+    options: JobOptions,
 ) -> Result<Told, JobsStop>
-    requires { (1 ≤ workers) × (workers ≤ 16) }
-    ensures text { IfOk result (λ told. IsTextOf ends read.round read.jobs read.names told.lacking (string_bytes told.text)) }
+    requires { (1 ≤ options.workers) × (options.workers ≤ 16) }
+    ensures text { IfOk result (λ told. IsTextOf options read.round read.jobs read.names told.lacking (string_bytes told.text)) }
     ensures all { IfOk result (λ told. told.all ≡ length read.jobs) }
-    ensures stop { IfErr result (λ stop. HasNoReport workers read.round read.jobs stop) }
+    ensures stop { IfErr result (λ stop. HasNoReport options.workers read.round read.jobs stop) }
 {
     let Read { store, names, jobs } = read;
-    let report = report_of(rt, alloc, store, jobs.as_slice(), workers)?;
-    let text = text_of(alloc, ends, &report, names.as_slice())?;
+    let report = report_of(rt, alloc, store, jobs.as_slice(), options.workers)?;
+    let text = text_of(alloc, options.ends, &report, names.as_slice())?;
     Ok(Told {
         text,
         lacking: lacking(report.ends.as_slice()) as u64,
@@ -148,13 +149,13 @@ fn run_read<N: RoundName + Send + Sync, T: Threads + Wait + Sync, W: Write>(
     options: JobOptions,
 ) -> Result<(), JobsStop>
     requires { (1 ≤ options.workers) × (options.workers ≤ 16) }
-    ensures written { OnOk result (HasWritten options.ends read 0 (W.contents output.old) (W.contents output.new)) }
+    ensures written { OnOk result (HasWritten options read 0 (W.contents output.old) (W.contents output.new)) }
     ensures stopped { IfErr result (λ stop. HasBroken options read stop (W.contents output.old) (W.contents output.new)) }
 {
     let Some(read) = read else {
         return Ok(());
     };
-    match told_of(rt, alloc, read, options.workers, options.ends) {
+    match told_of(rt, alloc, read, options) {
         Ok(told) => match write_text(output, told.text.as_str()) {
             Ok(()) => told.ended(),
             Err(stop) => Err(JobsStop::Lines(stop)),
@@ -175,7 +176,7 @@ fn run<N: RoundName + Send + Sync, T: Threads + Wait + Sync, R: Input, W: Write>
     requires names { new ≡ (N.table, N.rounds) }
     requires workers { (1 ≤ options.workers) × (options.workers ≤ 16) }
     ensures done { OnOk result (IfSome (R.remaining input.old) (λ bytes. (jobs_transcript options.fields bytes).fault ≡ None)) }
-    ensures written { OnOk result (IfSome (R.remaining input.old) (λ bytes. HasWritten options.ends (jobs_transcript options.fields bytes).value.read 0
+    ensures written { OnOk result (IfSome (R.remaining input.old) (λ bytes. HasWritten options (jobs_transcript options.fields bytes).value.read 0
         (W.contents output.old) (W.contents output.new))) }
     ensures stopped { IfErr result (λ stop. IfSome (R.remaining input.old) (λ bytes. JobsHaveStopped options bytes (R.remaining input.new) stop
         (W.contents output.old) (W.contents output.new))) }
@@ -223,7 +224,7 @@ pub fn write_jobs_within<T: Threads + Wait + Sync, R: Input, W: Write>(
 ) -> Result<(), JobsStop>
     requires { (1 ≤ options.workers) × (options.workers ≤ 16) }
     ensures done { OnOk result (IfSome (R.remaining input.old) (λ bytes. (jobs_transcript options.fields bytes).fault ≡ None)) }
-    ensures written { OnOk result (IfSome (R.remaining input.old) (λ bytes. HasWritten options.ends (jobs_transcript options.fields bytes).value.read 0
+    ensures written { OnOk result (IfSome (R.remaining input.old) (λ bytes. HasWritten options (jobs_transcript options.fields bytes).value.read 0
         (W.contents output.old) (W.contents output.new))) }
     ensures stopped { IfErr result (λ stop. IfSome (R.remaining input.old) (λ bytes. JobsHaveStopped options bytes (R.remaining input.new) stop
         (W.contents output.old) (W.contents output.new))) }
@@ -242,7 +243,7 @@ pub fn write_jobs<T: Threads + Wait + Sync, R: Input, W: Write>(
 ) -> Result<(), JobsStop>
     requires { (1 ≤ options.workers) × (options.workers ≤ 16) }
     ensures done { OnOk result (IfSome (R.remaining input.old) (λ bytes. (jobs_transcript options.fields bytes).fault ≡ None)) }
-    ensures written { OnOk result (IfSome (R.remaining input.old) (λ bytes. HasWritten options.ends (jobs_transcript options.fields bytes).value.read 0
+    ensures written { OnOk result (IfSome (R.remaining input.old) (λ bytes. HasWritten options (jobs_transcript options.fields bytes).value.read 0
         (W.contents output.old) (W.contents output.new))) }
     ensures stopped { IfErr result (λ stop. IfSome (R.remaining input.old) (λ bytes. JobsHaveStopped options bytes (R.remaining input.new) stop
         (W.contents output.old) (W.contents output.new))) }

@@ -1,5 +1,4 @@
 -- What is left of a text once a value of it is read, and a value that is kept where it is an object.
--- Cited by `Value::read_object`.
 use Rattle.std.specs.Prelude.{List, Option}
 use Rattle.std.specs.Option.{option_map}
 use Rattle.json.specs.Token.{Token}

@@ -1,5 +1,4 @@
 -- The tokens of a value, as a writer has them: the last one first.
--- Cited by `Writer::finish`.
 use Rattle.std.specs.Prelude.{List, ◌∷◌}
 use Rattle.json.specs.Token as token
 use Rattle.json.specs.Token.{Token}

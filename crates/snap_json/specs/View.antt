@@ -1,5 +1,4 @@
 -- The value of `serde_json` that a `Value` stands for.
--- Cited by `Value::read_object`, `Value::get`, `Value::is_object` and others.
 use Rattle.std.specs.Prelude.{ℕ, List, [], ◌∷◌, map}
 use Rattle.std.specs.Borrow.{Bor}
 use Rattle.serde_json.specs.Data.{Data, null, boolean, number, string, array, object, Items, no_items, item, Members, no_members, member, put}

@@ -1,5 +1,4 @@
 -- The fields of a `Writer`.
--- Cited by invariants and private clauses alone.
 use Rattle.std.specs.Prelude.{◌≡◌, List, [], reverse}
 use Rattle.json.specs.Token.{Token}
 use Rattle.snap_json.specs.declared.writer.Writer.TheInside.{Inside}

@@ -22,7 +22,7 @@ use Rattle.snap_layer.specs.declared.inode.Inode.{Inode}
 use Rattle.snap_layer.specs.declared.inode.Target.{Target}
 use Rattle.snap_layer.specs.declared.inode.Target.TheVariants.{Whiteout, Inode as Inode_}
 use Rattle.snap_layer.proofs.Inside.{all_map}
-use Rattle.snap_layer.specs.Rows.{name_cmp, Items, items_at, items_in, bound_of, after, placed, Frames, pushed, last_path, ahead, frame_text, frames_text, entered, AreNamed, IsWay, Passes}
+use Rattle.snap_layer.specs.Rows.{name_cmp, Items, items_at, items_in, bound_of, items_above, placed, Frames, pushed, last_path, ahead, frame_text, frames_text, frame_of, AreNamed, IsWay, Passes}
 
 -- ---- the items above a name
 
@@ -63,17 +63,17 @@ first_kept P test (y ∷ es) x rest a e = by (first_kept P test es x rest a.1) (
     by later false is = later is
 
 -- the items above the first that is above a name are the rest
-pub after_next : (o : Option (List ℕ)) (es : Items) (n : List ℕ) (t : Target) (rest : Items) → IsStrictlySortedBy name_cmp (keys_of es) → after o es ≡ (n, t) ∷ rest → after (Some n) es ≡ rest
+pub after_next : (o : Option (List ℕ)) (es : Items) (n : List ℕ) (t : Target) (rest : Items) → IsStrictlySortedBy name_cmp (keys_of es) → items_above o es ≡ (n, t) ∷ rest → items_above (Some n) es ≡ rest
 unfolding IsStrictlySortedBy
 after_next o [] n t rest sorted is = absurd (cc)
 after_next o (e ∷ es) n t rest sorted is = by (after_next o es n t rest sorted.1) (is_above o e.0) refl is
   where
-    by : (after o es ≡ (n, t) ∷ rest → after (Some n) es ≡ rest) → (b : Bool) → is_above o e.0 ≡ b → cond b (e ∷ after o es) (after o es) ≡ (n, t) ∷ rest → cond (is_above (Some n) e.0) (e ∷ after (Some n) es) (after (Some n) es) ≡ rest
+    by : (items_above o es ≡ (n, t) ∷ rest → items_above (Some n) es ≡ rest) → (b : Bool) → is_above o e.0 ≡ b → cond b (e ∷ items_above o es) (items_above o es) ≡ (n, t) ∷ rest → cond (is_above (Some n) e.0) (e ∷ items_above (Some n) es) (items_above (Some n) es) ≡ rest
     by later true above first =
-        let name : e.0 ≡ n = ap (λ (x : List ℕ × Target). x.0) (head e (n, t) (after o es) rest first) in
-        let others : after o es ≡ rest = cc in
+        let name : e.0 ≡ n = ap (λ (x : List ℕ × Target). x.0) (head e (n, t) (items_above o es) rest first) in
+        let others : items_above o es ≡ rest = cc in
         let rises : AllByRecursion (λ m. name_cmp n m ≡ Less) (keys_of es) = subst (λ k. AllByRecursion (λ m. name_cmp k m ≡ Less) (keys_of es)) name sorted.0 in
-        cond-false (is_above (Some n) e.0) _ (after (Some n) es) (ap (is_above (Some n)) name ∙ not_itself n)
+        cond-false (is_above (Some n) e.0) _ (items_above (Some n) es) (ap (is_above (Some n)) name ∙ not_itself n)
         ∙ kept_all (is_above (Some n)) es (all_map (λ m. name_cmp n m ≡ Less) (λ m. is_above (Some n) m ≡ true) (λ m r. above_less n m r) (keys_of es) rises)
         ∙ sym (kept_all (is_above o) es (all_map (λ m. name_cmp e.0 m ≡ Less) (λ m. is_above o m ≡ true) (λ m r. above_trans o e.0 m above r) (keys_of es) sorted.0))
         ∙ others
@@ -81,7 +81,7 @@ after_next o (e ∷ es) n t rest sorted is = by (after_next o es n t rest sorted
         head : (x y : List ℕ × Target) (xs ys : Items) → x ∷ xs ≡ y ∷ ys → x ≡ y
         head x y xs ys f = cc
     by later false above first =
-        cond-false (is_above (Some n) e.0) _ (after (Some n) es) (below_less e.0 n (first_kept (λ m. name_cmp e.0 m ≡ Less) (is_above o) es (n, t) rest sorted.0 first))
+        cond-false (is_above (Some n) e.0) _ (items_above (Some n) es) (below_less e.0 n (first_kept (λ m. name_cmp e.0 m ≡ Less) (is_above o) es (n, t) rest sorted.0 first))
         ∙ later first
 
 -- ---- the frames
@@ -92,22 +92,22 @@ last_path_snoc p (g ∷ fs) f = last_path_snoc (pushed p g.1) fs f
 
 module _ (s : Slots Inode) where
   -- what the last frame has comes first
-  pub ahead_snoc : (p : Names) (fs : Frames) (f : ℕ × Option (List ℕ)) → ahead s p (fs ++ f ∷ []) ≡ placed (last_path p fs) (after f.1 (items_at s f.0)) ++ ahead s p fs
-  ahead_snoc p [] f = sym (append-nil (placed p (after f.1 (items_at s f.0))))
+  pub ahead_snoc : (p : Names) (fs : Frames) (f : ℕ × Option (List ℕ)) → ahead s p (fs ++ f ∷ []) ≡ placed (last_path p fs) (items_above f.1 (items_at s f.0)) ++ ahead s p fs
+  ahead_snoc p [] f = sym (append-nil (placed p (items_above f.1 (items_at s f.0))))
   ahead_snoc p (g ∷ fs) f =
-      ap (λ l. l ++ placed p (after g.1 (items_at s g.0))) (ahead_snoc (pushed p g.1) fs f)
-      ∙ append_assoc (placed (last_path (pushed p g.1) fs) (after f.1 (items_at s f.0))) (ahead s (pushed p g.1) fs) (placed p (after g.1 (items_at s g.0)))
+      ap (λ l. l ++ placed p (items_above g.1 (items_at s g.0))) (ahead_snoc (pushed p g.1) fs f)
+      ∙ append_assoc (placed (last_path (pushed p g.1) fs) (items_above f.1 (items_at s f.0))) (ahead s (pushed p g.1) fs) (placed p (items_above g.1 (items_at s g.0)))
 
   -- a frame that has no more may go
-  pub ahead_gone : (p : Names) (old new : Frames) (f : ℕ × Option (List ℕ)) → old ≡ new ++ f ∷ [] → after f.1 (items_at s f.0) ≡ [] → ahead s p new ≡ ahead s p old
+  pub ahead_gone : (p : Names) (old new : Frames) (f : ℕ × Option (List ℕ)) → old ≡ new ++ f ∷ [] → items_above f.1 (items_at s f.0) ≡ [] → ahead s p new ≡ ahead s p old
   ahead_gone p old new f is none = sym (ap (ahead s p) is ∙ ahead_snoc p new f ∙ ap (λ es. placed (last_path p new) es ++ ahead s p new) none)
 
   -- a frame that goes on to its next name
   pub ahead_next : (p : Names) (old new front : Frames) (f : ℕ × Option (List ℕ)) (n : List ℕ) (t : Target) → old ≡ front ++ f ∷ [] → new ≡ front ++ (f.0, Some n) ∷ []
-      → after f.1 (items_at s f.0) ≡ (n, t) ∷ after (Some n) (items_at s f.0) → ahead s p old ≡ (last_path p new, t) ∷ ahead s p new
+      → items_above f.1 (items_at s f.0) ≡ (n, t) ∷ items_above (Some n) (items_at s f.0) → ahead s p old ≡ (last_path p new, t) ∷ ahead s p new
   ahead_next p old new front f n t was is next =
       let path : last_path p front ++ n ∷ [] ≡ last_path p new = sym (last_path_snoc p front (f.0, Some n)) ∙ ap (last_path p) (sym is) in
-      let others : placed (last_path p front) (after (Some n) (items_at s f.0)) ++ ahead s p front ≡ ahead s p new = sym (ahead_snoc p front (f.0, Some n)) ∙ ap (ahead s p) (sym is) in
+      let others : placed (last_path p front) (items_above (Some n) (items_at s f.0)) ++ ahead s p front ≡ ahead s p new = sym (ahead_snoc p front (f.0, Some n)) ∙ ap (ahead s p) (sym is) in
       ap (ahead s p) was ∙ ahead_snoc p front f ∙ ap (λ es. placed (last_path p front) es ++ ahead s p front) next ∙ λ i. (path i, t) ∷ others i
 
 -- ---- which frames have names
@@ -169,22 +169,22 @@ module _ (p : Names) (fs gs : Frames) (n : List ℕ) (passes : Passes fs gs n) (
 
 -- ---- an inode entered
 
-items_all : (es : Items) → after None es ≡ es
+items_all : (es : Items) → items_above None es ≡ es
 items_all es = kept_all (is_above None) es (each (keys_of es))
   where
     each : (ks : List (List ℕ)) → AllByRecursion (λ k. is_above None k ≡ true) ks
     each [] = tt
     each (k ∷ ks) = (refl, each ks)
 
-pub last_path_entered : (p : Names) (gs : Frames) (t : Target) → last_path p (gs ++ entered t) ≡ last_path p gs
+pub last_path_entered : (p : Names) (gs : Frames) (t : Target) → last_path p (gs ++ frame_of t) ≡ last_path p gs
 last_path_entered p gs Whiteout = ap (last_path p) (append-nil gs)
 last_path_entered p gs (Inode_ c) = last_path_snoc p gs (c, None)
 
-pub ahead_entered : (s : Slots Inode) (p : Names) (gs : Frames) (t : Target) → ahead s p (gs ++ entered t) ≡ placed (last_path p gs) (items_in s t) ++ ahead s p gs
+pub ahead_entered : (s : Slots Inode) (p : Names) (gs : Frames) (t : Target) → ahead s p (gs ++ frame_of t) ≡ placed (last_path p gs) (items_in s t) ++ ahead s p gs
 ahead_entered s p gs Whiteout = ap (ahead s p) (append-nil gs)
 ahead_entered s p gs (Inode_ c) = ahead_snoc s p gs (c, None) ∙ ap (λ es. placed (last_path p gs) es ++ ahead s p gs) (items_all (items_at s c))
 
-pub way_entered : (gs : Frames) (t : Target) → AreNamed gs → IsWay (gs ++ entered t)
+pub way_entered : (gs : Frames) (t : Target) → AreNamed gs → IsWay (gs ++ frame_of t)
 way_entered gs Whiteout named = way_named (gs ++ []) (subst AreNamed (sym (append-nil gs)) named)
 way_entered gs (Inode_ c) named = way_snoc gs (c, None) named
 
@@ -224,6 +224,6 @@ last_path_text p [] = omega arith
 last_path_text p ((k, None) ∷ fs) = omega (arith, last_path_text p fs)
 last_path_text p ((k, Some n) ∷ fs) = omega (arith, last_path_text (p ++ n ∷ []) fs, text_below_push_length p n)
 
-pub text_entered : (gs : Frames) (t : Target) → frames_text (gs ++ entered t) ≡ frames_text gs
+pub text_entered : (gs : Frames) (t : Target) → frames_text (gs ++ frame_of t) ≡ frames_text gs
 text_entered gs Whiteout = ap frames_text (append-nil gs)
 text_entered gs (Inode_ c) = omega (arith, frames_text_snoc gs (c, None))

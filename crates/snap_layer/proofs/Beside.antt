@@ -7,7 +7,7 @@ use Rattle.snap_layer.proofs.Paths.{split_front, begins-trans, begins_from}
 use Rattle.snap_layer.proofs.Moves.{not_longer, not_of_root}
 use Rattle.snap_layer.specs.declared.inode.Target.{Target}
 use Rattle.snap_layer.specs.declared.inode.Target.TheVariants as target
-use Rattle.snap_layer.specs.Walk.{View, walk, seen, stands, IsTable, IsBare}
+use Rattle.snap_layer.specs.Walk.{SlotView, walk, node_shown, stands, IsTable, IsBare}
 use Rattle.snap_layer.proofs.Frames.{walk_agree, walk_push, walk_past}
 
 -- what a longer path does not begin with, a front of it does not
@@ -20,7 +20,7 @@ front_out p x y m q is out = elim (split_front p (x ++ m ∷ [])) [
     no : true ≡ false → ⊥
     no e = cc
 
-pub seen_agree : (f g : ℕ → Option Node) (o : Option Target) → ((c : ℕ) → o ≡ Some (target.Inode c) → f c ≡ g c) → seen f o ≡ seen g o
+pub seen_agree : (f g : ℕ → Option Node) (o : Option Target) → ((c : ℕ) → o ≡ Some (target.Inode c) → f c ≡ g c) → node_shown f o ≡ node_shown g o
 seen_agree f g None same = refl
 seen_agree f g (Some target.Whiteout) same = refl
 seen_agree f g (Some (target.Inode c)) same = same c refl
@@ -32,14 +32,14 @@ pub record Leaves (u v : Tree) (p : Names) (o : Option Node) : Type 0 where
   pub others : (q : Names) → begins p q ≡ false → at v q ≡ at u q
 
 -- t has the target at the entry, nothing below it, and elsewhere reads as s along each path
-pub record Beside (s t : View) (root : ℕ) (q : Names) (n : List ℕ) (d : ℕ) (w : Option Target) : Type 0 where
+pub record Beside (s t : SlotView) (root : ℕ) (q : Names) (n : List ℕ) (d : ℕ) (w : Option Target) : Type 0 where
   pub leads : walk s.entries root q ≡ Some (target.Inode d)
   pub entries : (x : Names) (m : List ℕ) (c : ℕ) → walk s.entries root x ≡ Some (target.Inode c) → begins (q ++ n ∷ []) (x ++ m ∷ []) ≡ false → t.entries c m ≡ s.entries c m
   pub here : t.entries d n ≡ w
   pub bare : IsBare t.entries w
   pub nodes : (x : Names) (c : ℕ) → walk s.entries root x ≡ Some (target.Inode c) → begins (q ++ n ∷ []) x ≡ false → t.nodes c ≡ s.nodes c
 
-module _ (s t : View) (root : ℕ) (q : Names) (n : List ℕ) (d : ℕ) (w : Option Target) (b : Beside s t root q n d w) where
+module _ (s t : SlotView) (root : ℕ) (q : Names) (n : List ℕ) (d : ℕ) (w : Option Target) (b : Beside s t root q n d w) where
   abbrev pn : Names
   pn = q ++ n ∷ []
 
@@ -98,8 +98,8 @@ module _ (s t : View) (root : ℕ) (q : Names) (n : List ℕ) (d : ℕ) (w : Opt
         (λ same again. is ∙ sym same));
   }
 
-  pub shows : (u v : Tree) → ((x : Names) → stands s root x ≡ at u x) → Leaves u v pn (seen t.nodes w) → (x : Names) → stands t root x ≡ at v x
+  pub shows : (u v : Tree) → ((x : Names) → stands s root x ≡ at u x) → Leaves u v pn (node_shown t.nodes w) → (x : Names) → stands t root x ≡ at v x
   shows u v was leaves x = by_place x
-      (λ out. ap (seen t.nodes) (walk_out x out) ∙ seen_agree t.nodes s.nodes (walk s.entries root x) (λ c leads. b.nodes x c leads out) ∙ was x ∙ sym (leaves.others x out))
-      (λ is. ap (λ y. seen t.nodes (walk t.entries root y)) is ∙ ap (seen t.nodes) walk_here ∙ sym leaves.here ∙ ap (at v) (sym is))
-      (λ m r is. ap (λ y. seen t.nodes (walk t.entries root y)) is ∙ ap (seen t.nodes) (walk_below m r) ∙ sym (leaves.below m r) ∙ ap (at v) (sym is))
+      (λ out. ap (node_shown t.nodes) (walk_out x out) ∙ seen_agree t.nodes s.nodes (walk s.entries root x) (λ c leads. b.nodes x c leads out) ∙ was x ∙ sym (leaves.others x out))
+      (λ is. ap (λ y. node_shown t.nodes (walk t.entries root y)) is ∙ ap (node_shown t.nodes) walk_here ∙ sym leaves.here ∙ ap (at v) (sym is))
+      (λ m r is. ap (λ y. node_shown t.nodes (walk t.entries root y)) is ∙ ap (node_shown t.nodes) (walk_below m r) ∙ sym (leaves.below m r) ∙ ap (at v) (sym is))

@@ -17,43 +17,42 @@ use Rattle.snap_layer.specs.declared.node.Node.TheVariants.{Dir, File, Symlink, 
 use Rattle.snap_layer.specs.declared.node.Body.{Body}
 use Rattle.snap_layer.specs.declared.node.Body.TheVariants as body_kinds
 use Rattle.snap_layer.specs.Tree.{Tree, Bodies, at, body, number_of}
-use Rattle.snap_layer.specs.Counts.{blocks_of, body_blocks, most_inodes}
+use Rattle.snap_layer.specs.Counts.{blocks_of, body_blocks, most_file_blocks, most_inodes}
 use Rattle.snap_layer.specs.Contents.{size_of, IsContent}
 use Rattle.snap_layer.specs.Layers.{IsLayer, IsFile, IsSymlink, IsWhole, IsBody}
 use Rattle.snap_layer.proofs.Lists.{lookup_below, at_itself}
 use Rattle.snap_layer.proofs.Looks.{split_number}
 use Rattle.snap_layer.proofs.Kept.{node_with_number}
 
--- a file has at most 2 ^ 28 blocks
-pub content_blocks : (c : Content) → IsContent c → blocks_of (size_of c) ≤ 268435456
+pub content_blocks : (c : Content) → IsContent c → blocks_of (size_of c) ≤ most_file_blocks
 content_blocks (Bytes bytes) short = omega (arith, short)
 content_blocks (Sized size digest) short = omega (arith, short.0)
 
-file_blocks : (b : Body) → IsFile (Some b) → body_blocks b ≤ 268435456
+file_blocks : (b : Body) → IsFile (Some b) → body_blocks b ≤ most_file_blocks
 file_blocks (body_kinds.File mode content) file = content_blocks content file.1
 file_blocks (body_kinds.Symlink target) file = absurd file
 
-symlink_blocks : (b : Body) → IsSymlink (Some b) → body_blocks b ≤ 268435456
+symlink_blocks : (b : Body) → IsSymlink (Some b) → body_blocks b ≤ most_file_blocks
 symlink_blocks (body_kinds.File mode content) link = absurd link
 symlink_blocks (body_kinds.Symlink target) link = omega arith
 
-pub body_small : (b : Body) → IsBody b → body_blocks b ≤ 268435456
+pub body_small : (b : Body) → IsBody b → body_blocks b ≤ most_file_blocks
 body_small (body_kinds.File mode content) fits = file_blocks (body_kinds.File mode content) fits
 body_small (body_kinds.Symlink target) fits = symlink_blocks (body_kinds.Symlink target) fits
 
-whole_blocks : (t : Tree) (n : Node) (k : ℕ) (b : Body) → IsWhole t n → number_of n ≡ Some k → body t k ≡ Some b → body_blocks b ≤ 268435456
+whole_blocks : (t : Tree) (n : Node) (k : ℕ) (b : Body) → IsWhole t n → number_of n ≡ Some k → body t k ≡ Some b → body_blocks b ≤ most_file_blocks
 whole_blocks t (Dir m o) k b whole e is = absurd (cc)
 whole_blocks t (File j) k b whole e is = let same : j ≡ k = cc in file_blocks b (subst IsFile (ap (body t) same ∙ is) whole)
 whole_blocks t (Symlink j) k b whole e is = let same : j ≡ k = cc in symlink_blocks b (subst IsSymlink (ap (body t) same ∙ is) whole)
 whole_blocks t Whiteout k b whole e is = absurd (cc)
 
-pub blocks_of_body : (t : Tree) → IsLayer t → (k : ℕ) (b : Body) → body t k ≡ Some b → body_blocks b ≤ 268435456
+pub blocks_of_body : (t : Tree) → IsLayer t → (k : ℕ) (b : Body) → body t k ≡ Some b → body_blocks b ≤ most_file_blocks
 blocks_of_body t ok k b is =
     let name = ok.named k (ap is_some is) in
     let n = node_with_number (at t name.0) k name.1 in
     whole_blocks t n.0 k b (ok.nodes name.0 n.0 n.1) n.2 is
 
-bounded : (bs : Bodies) → IsStrictlySortedBy nat_cmp (keys_of bs) → ((k : ℕ) (b : Body) → lookup (is_at (nat_cmp k)) bs ≡ Some b → body_blocks b ≤ 268435456) → sum_by body_blocks (values_of bs) ≤ length bs * 268435456
+bounded : (bs : Bodies) → IsStrictlySortedBy nat_cmp (keys_of bs) → ((k : ℕ) (b : Body) → lookup (is_at (nat_cmp k)) bs ≡ Some b → body_blocks b ≤ most_file_blocks) → sum_by body_blocks (values_of bs) ≤ length bs * most_file_blocks
 unfolding IsStrictlySortedBy
 bounded [] sorted each = omega arith
 bounded (e ∷ bs) sorted each =
@@ -71,5 +70,5 @@ bounded (e ∷ bs) sorted each =
     ]
 
 -- the blocks of all files
-pub blocks_of_bodies : (t : Tree) → IsLayer t → sum_by body_blocks (values_of t.bodies) ≤ most_inodes * 268435456
+pub blocks_of_bodies : (t : Tree) → IsLayer t → sum_by body_blocks (values_of t.bodies) ≤ most_inodes * most_file_blocks
 blocks_of_bodies t ok = omega (arith, bounded t.bodies ok.sorted_numbers (blocks_of_body t ok), ok.few, ok.most.1)

@@ -15,7 +15,7 @@ use Rattle.snap_layer.proofs.Counting.{weight, name_count-insert_entry}
 use Rattle.snap_layer.proofs.Kept.{has_body}
 use Rattle.snap_layer.proofs.Replacing.{other_name}
 use Rattle.snap_layer.specs.declared.inode.Target.TheVariants as target
-use Rattle.snap_layer.specs.Walk.{View, walk, seen, stands, Gains, Renodes, Rebodies}
+use Rattle.snap_layer.specs.Walk.{SlotView, walk, node_shown, stands, Gains, Renodes, Rebodies}
 use Rattle.snap_layer.specs.Holds.{Places, place, IsLeafOf}
 use Rattle.snap_layer.proofs.Frames.{split_ℕ}
 use Rattle.snap_layer.proofs.Makes.{Makes}
@@ -39,7 +39,7 @@ no_dir (node.Symlink k) j e dir = cc
 no_dir node.Whiteout j e dir = cc
 
 -- one more name over a free place
-pub name_makes : (s t : View) (root : ℕ) (ps : Places) (next : ℕ) (u : Tree) → Makes s root ps next u → IsLayer u → (q : Names) (n : List ℕ) (d : ℕ) → walk s.entries root q ≡ Some (target.Inode d) → IsDirAt (s.nodes d) → IsFree (at u (q ++ n ∷ []))
+pub name_makes : (s t : SlotView) (root : ℕ) (ps : Places) (next : ℕ) (u : Tree) → Makes s root ps next u → IsLayer u → (q : Names) (n : List ℕ) (d : ℕ) → walk s.entries root q ≡ Some (target.Inode d) → IsDirAt (s.nodes d) → IsFree (at u (q ++ n ∷ []))
     → (k j : ℕ) (v : Node) → place ps j ≡ Some k → s.nodes k ≡ Some v → number_of v ≡ Some j → Gains s t d n k → Makes t root ps next (with_entry u (q ++ n ∷ []) v)
 name_makes s t root ps next u m layer q n d leads dir free k j v found node_is named nm =
     let b : Beside s t root q n d (Some (target.Inode k)) = record { leads = leads; entries = puts_out s t root q n d (Some (target.Inode k)) m.table leads dir nm.entries; here = nm.entries.here; bare = nm.bare; nodes = λ x c to out. nm.nodes c } in
@@ -79,7 +79,7 @@ name_makes s t root ps next u m layer q n d leads dir free k j v found node_is n
     nil x = omega arith
 
 -- a directory's mode or mark set
-pub dir_set_makes : (s t : View) (root : ℕ) (ps : Places) (next : ℕ) (u : Tree) → Makes s root ps next u → IsLayer u → (q : Names) (k m0 m1 : ℕ) (o0 o1 : Bool) → walk s.entries root q ≡ Some (target.Inode k) → at u q ≡ Some (node.Dir m0 o0) → Renodes s t k (node.Dir m1 o1) → Makes t root ps next (with_entry u q (node.Dir m1 o1))
+pub dir_set_makes : (s t : SlotView) (root : ℕ) (ps : Places) (next : ℕ) (u : Tree) → Makes s root ps next u → IsLayer u → (q : Names) (k m0 m1 : ℕ) (o0 o1 : Bool) → walk s.entries root q ≡ Some (target.Inode k) → at u q ≡ Some (node.Dir m0 o0) → Renodes s t k (node.Dir m1 o1) → Makes t root ps next (with_entry u q (node.Dir m1 o1))
 dir_set_makes s t root ps next u m layer q k m0 m1 o0 o1 leads is re = record {
   table = record {
     root_dir = elim (split_ℕ root k) [ inl same ↦ subst IsDirAt (sym (ap t.nodes same ∙ re.node)) refl | inr other ↦ subst IsDirAt (sym (re.nodes root other)) m.table.root_dir ];
@@ -96,9 +96,9 @@ dir_set_makes s t root ps next u m layer q k m0 m1 o0 o1 leads is re = record {
     sorted = m.filed.sorted;
   };
   shows = λ x. elim (split_path q x) [
-    | inl same ↦ ap (stands t root) (sym same.0) ∙ ap (seen t.nodes) (walk_same q ∙ leads) ∙ re.node ∙ sym (ap (at (with_entry u q (node.Dir m1 o1))) (sym same.0) ∙ (Sets-with_entry u q (node.Dir m1 o1)).here)
+    | inl same ↦ ap (stands t root) (sym same.0) ∙ ap (node_shown t.nodes) (walk_same q ∙ leads) ∙ re.node ∙ sym (ap (at (with_entry u q (node.Dir m1 o1))) (sym same.0) ∙ (Sets-with_entry u q (node.Dir m1 o1)).here)
     | inr apart ↦
-        ap (seen t.nodes) (walk_same x) ∙ seen_agree t.nodes s.nodes (walk s.entries root x) (λ c to. re.nodes c (λ same. apart.0 (m.table.forest x q k (subst IsDirAt (sym was) refl) (to ∙ ap (λ (y : ℕ). Some (target.Inode y)) same) leads)))
+        ap (node_shown t.nodes) (walk_same x) ∙ seen_agree t.nodes s.nodes (walk s.entries root x) (λ c to. re.nodes c (λ same. apart.0 (m.table.forest x q k (subst IsDirAt (sym was) refl) (to ∙ ap (λ (y : ℕ). Some (target.Inode y)) same) leads)))
         ∙ m.shows x ∙ sym ((Sets-with_entry u q (node.Dir m1 o1)).others x apart.0)
   ];
   bodies = λ j. ap (λ (f : ℕ → Option Body). option_and_then f (place ps j)) (λ i c. re.bodies c i) ∙ m.bodies j;
@@ -109,7 +109,7 @@ dir_set_makes s t root ps next u m layer q k m0 m1 o0 o1 leads is re = record {
     walk_same p = let e : t.entries ≡ s.entries = λ i c n. re.entries c n i in ap (λ f. walk f root p) e
 
     was : s.nodes k ≡ Some (node.Dir m0 o0)
-    was = sym (ap (seen s.nodes) leads) ∙ m.shows q ∙ is
+    was = sym (ap (node_shown s.nodes) leads) ∙ m.shows q ∙ is
 
     not_leaf : (i c : ℕ) → IsLeafOf s i c → c ≡ k → ⊥
     not_leaf i c leaf same = no_some i (ap (option_and_then number_of) (sym was) ∙ ap (λ (y : ℕ). option_and_then number_of (s.nodes y)) (sym same) ∙ ap (option_and_then number_of) leaf.2 ∙ leaf_number i leaf.0)
@@ -118,7 +118,7 @@ dir_set_makes s t root ps next u m layer q k m0 m1 o0 o1 leads is re = record {
     names i = omega (arith, name_count-insert_entry i u.entries q (node.Dir m1 o1) layer.sorted_paths, ap (weight (λ n. cond (has_number i n) 1 0)) is)
 
 -- a file's content or mode set
-pub body_set_makes : (s t : View) (root : ℕ) (ps : Places) (next : ℕ) (u : Tree) → Makes s root ps next u → (j k : ℕ) (b : Body) → place ps j ≡ Some k → s.nodes k ≡ Some (leaf_node j b) → Rebodies s t k b → Makes t root ps next (with_body u j b)
+pub body_set_makes : (s t : SlotView) (root : ℕ) (ps : Places) (next : ℕ) (u : Tree) → Makes s root ps next u → (j k : ℕ) (b : Body) → place ps j ≡ Some k → s.nodes k ≡ Some (leaf_node j b) → Rebodies s t k b → Makes t root ps next (with_body u j b)
 body_set_makes s t root ps next u m j k b found kind re = record {
   table = record {
     root_dir = subst IsDirAt (sym (re.nodes root)) m.table.root_dir;
@@ -137,7 +137,7 @@ body_set_makes s t root ps next u m j k b found kind re = record {
     counted = λ i c at_i. re.counts c ∙ m.filed.counted i c at_i;
     sorted = m.filed.sorted;
   };
-  shows = λ x. ap (seen t.nodes) (walk_same x) ∙ ap (λ f. seen f (walk s.entries root x)) (λ i c. re.nodes c i) ∙ m.shows x;
+  shows = λ x. ap (node_shown t.nodes) (walk_same x) ∙ ap (λ f. node_shown f (walk s.entries root x)) (λ i c. re.nodes c i) ∙ m.shows x;
   bodies = λ i. elim (split_ℕ i j) [
     | inl same ↦ ap (option_and_then t.bodies) (ap (place ps) same ∙ found) ∙ re.body ∙ sym (ap (body (with_body u j b)) same ∙ (SetsBody-with_body u j b).here)
     | inr apart ↦ stay i apart (place ps i) refl ∙ m.bodies i ∙ sym ((SetsBody-with_body u j b).others i apart)
@@ -154,7 +154,7 @@ body_set_makes s t root ps next u m j k b found kind re = record {
         let leaf = m.filed.housed i c is in
         apart (some_same i j (sym (leaf_number i leaf.0) ∙ sym (ap (option_and_then number_of) leaf.2) ∙ ap (λ (y : ℕ). option_and_then number_of (s.nodes y)) same ∙ ap (option_and_then number_of) kind ∙ leaf_number j b)))
 
-pub dir_set_made : (s t : View) (root : ℕ) (ps : Places) (next : ℕ) (u : Tree) → Makes s root ps next u → IsLayer u → (q : Names) (k mode : ℕ) (opaque : Bool) → walk s.entries root q ≡ Some (target.Inode k) → IsDirAt (at u q) → Renodes s t k (node.Dir mode opaque) → Makes t root ps next (with_entry u q (node.Dir mode opaque))
+pub dir_set_made : (s t : SlotView) (root : ℕ) (ps : Places) (next : ℕ) (u : Tree) → Makes s root ps next u → IsLayer u → (q : Names) (k mode : ℕ) (opaque : Bool) → walk s.entries root q ≡ Some (target.Inode k) → IsDirAt (at u q) → Renodes s t k (node.Dir mode opaque) → Makes t root ps next (with_entry u q (node.Dir mode opaque))
 dir_set_made s t root ps next u m layer q k mode opaque leads dir re = by (at u q) refl dir
   where
     by : (o : Option Node) → at u q ≡ o → IsDirAt o → Makes t root ps next (with_entry u q (node.Dir mode opaque))
@@ -176,7 +176,7 @@ body_some u j there = by (body u j) refl there
     by None is some = absurd (no_body some)
     by (Some b) is some = (b, is)
 
-module _ (s : View) (root : ℕ) (ps : Places) (next : ℕ) (u : Tree) (m : Makes s root ps next u) where
+module _ (s : SlotView) (root : ℕ) (ps : Places) (next : ℕ) (u : Tree) (m : Makes s root ps next u) where
   -- where a number has a body it has a place
   pub place_there : (j : ℕ) → IsSome (body u j) → place ps j ≡ None → ⊥
   place_there j there none = no_body (subst IsSome (sym (m.bodies j) ∙ ap (option_and_then s.bodies) none) there)
@@ -206,12 +206,12 @@ module _ (s : View) (root : ℕ) (ps : Places) (next : ℕ) (u : Tree) (m : Make
 
 -- ---- at a path
 
-pub name_made : (s t : View) (root : ℕ) (ps : Places) (next : ℕ) (u : Tree) (path q : Names) (n : List ℕ) (d : ℕ) → Spot s root ps next u path q n d → IsFree (at u path) → (k j : ℕ) (b : Body) → place ps j ≡ Some k → body u j ≡ Some b → Gains s t d n k → Makes t root ps next (with_entry u path (leaf_node j b))
+pub name_made : (s t : SlotView) (root : ℕ) (ps : Places) (next : ℕ) (u : Tree) (path q : Names) (n : List ℕ) (d : ℕ) → Spot s root ps next u path q n d → IsFree (at u path) → (k j : ℕ) (b : Body) → place ps j ≡ Some k → body u j ≡ Some b → Gains s t d n k → Makes t root ps next (with_entry u path (leaf_node j b))
 name_made s t root ps next u path q n d spot free k j b found is gains =
     subst (λ (p : Names). Makes t root ps next (with_entry u p (leaf_node j b))) (sym spot.splits)
     (name_makes s t root ps next u spot.makes spot.layer q n d spot.leads spot.dir (subst (λ (p : Names). IsFree (at u p)) spot.splits free) k j (leaf_node j b) found (node_found s root ps next u spot.makes j k found b is) (leaf_number j b) gains)
 
-pub body_set_made : (s t : View) (root : ℕ) (ps : Places) (next : ℕ) (u : Tree) → Makes s root ps next u → (j k : ℕ) (b : Body) → place ps j ≡ Some k → IsSome (body u j) → ((x : Body) → body u j ≡ Some x → leaf_node j x ≡ leaf_node j b) → Rebodies s t k b → Makes t root ps next (with_body u j b)
+pub body_set_made : (s t : SlotView) (root : ℕ) (ps : Places) (next : ℕ) (u : Tree) → Makes s root ps next u → (j k : ℕ) (b : Body) → place ps j ≡ Some k → IsSome (body u j) → ((x : Body) → body u j ≡ Some x → leaf_node j x ≡ leaf_node j b) → Rebodies s t k b → Makes t root ps next (with_body u j b)
 body_set_made s t root ps next u m j k b found there kind re =
     let old = body_some u j there in
     body_set_makes s t root ps next u m j k b found (node_found s root ps next u m j k found old.0 old.1 ∙ ap (λ (x : Node). Some x) (kind old.0 old.1)) re
@@ -224,7 +224,7 @@ same_kind j k (body_kinds.Symlink x) (body_kinds.File n y) e = absurd (cc)
 same_kind j k (body_kinds.Symlink x) (body_kinds.Symlink y) e = refl
 
 -- a file's mode set
-pub mode_set_made : (s t : View) (root : ℕ) (ps : Places) (next : ℕ) (u : Tree) → Makes s root ps next u → (j k mode : ℕ) (b : Body) → place ps j ≡ Some k → body u j ≡ Some b → Rebodies s t k (body_with_mode b mode) → Makes t root ps next (with_body u j (body_with_mode b mode))
+pub mode_set_made : (s t : SlotView) (root : ℕ) (ps : Places) (next : ℕ) (u : Tree) → Makes s root ps next u → (j k mode : ℕ) (b : Body) → place ps j ≡ Some k → body u j ≡ Some b → Rebodies s t k (body_with_mode b mode) → Makes t root ps next (with_body u j (body_with_mode b mode))
 mode_set_made s t root ps next u m j k mode b found is re =
     body_set_makes s t root ps next u m j k (body_with_mode b mode) found (node_found s root ps next u m j k found b is ∙ ap (λ (x : Node). Some x) (same_leaf b)) re
   where

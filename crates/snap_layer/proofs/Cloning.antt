@@ -4,14 +4,14 @@ use Rattle.std.specs.Prelude.{slice_index_or}
 use Rattle.std.specs.List.{AllZip}
 use Rattle.slab.specs.Slab.{Slab as Slots, get, IsSlotClone, IsSlabClone}
 use Rattle.snap_layer.specs.declared.inode.Inode.{Inode}
-use Rattle.snap_layer.specs.Walk.{Alike, entry_of, node_of, body_of, count_of, view_of, Same}
+use Rattle.snap_layer.specs.Walk.{Alike, entry_of, node_of, body_of, links_of, view_of, Same}
 
 -- two slots read alike
 record Reads (a b : Option Inode) : Type 0 where
   entries : (m : List ℕ) → entry_of b m ≡ entry_of a m
   node : node_of b ≡ node_of a
   body : body_of b ≡ body_of a
-  count : count_of b ≡ count_of a
+  count : links_of b ≡ links_of a
 
 reads_none : Reads None None
 reads_none = record { entries = λ m. refl; node = refl; body = refl; count = refl }

@@ -13,7 +13,7 @@ use Rattle.snap_layer.specs.declared.bytes.Edit.TheVariants.{Keep, Write, Resize
 use Rattle.snap_layer.specs.Tree.{Tree, body, leaf_node}
 use Rattle.snap_layer.specs.Layers.{IsLayer, IsFile}
 use Rattle.snap_layer.specs.Edits.{with_body, with_filled, IsRegular}
-use Rattle.snap_layer.specs.Contents.{bytes_written, bytes_resized, written, resized, edited, changes, size_of, body_content, body_edited, IsContent, IsShort}
+use Rattle.snap_layer.specs.Contents.{bytes_written, bytes_resized, written, resized, edited, changes_size, size_of, body_content, body_edited, IsContent, IsShort}
 use Rattle.snap_layer.proofs.Kept.{IsLayer-with_body}
 use Rattle.snap_layer.proofs.Filling.{file_there}
 
@@ -93,7 +93,7 @@ size_after_cut : (size new : ℕ) (digest : Option (List ℕ)) (b : Bool) → (i
 size_after_cut size new digest true = refl
 size_after_cut size new digest false = refl
 
-pub sized_edited : (e : Edit) (size : ℕ) (digest : Option (List ℕ)) → edited e (Sized size digest) ≡ (if changes e size then Sized (size_of (edited e (Sized size digest))) None else Sized size digest)
+pub sized_edited : (e : Edit) (size : ℕ) (digest : Option (List ℕ)) → edited e (Sized size digest) ≡ (if changes_size e size then Sized (size_of (edited e (Sized size digest))) None else Sized size digest)
 sized_edited Keep size digest = refl
 sized_edited (Write offset bytes) size digest = size_after_write size digest offset bytes.now
 sized_edited (Resize new) size digest = size_after_cut size new digest (size == new)

@@ -29,7 +29,7 @@ use Rattle.snap_layer.proofs.Moves.{sorted-without}
 use Rattle.snap_layer.proofs.Moving.{found_inside}
 use Rattle.snap_layer.specs.declared.inode.Target.{Target}
 use Rattle.snap_layer.specs.declared.inode.Target.TheVariants as target
-use Rattle.snap_layer.specs.Walk.{View, walk, seen, Table, IsTable, IsBare, Puts, Links, Same, Frees, Releases, Drops, Covers}
+use Rattle.snap_layer.specs.Walk.{SlotView, walk, node_shown, Table, IsTable, IsBare, Puts, Links, Same, Frees, Releases, Drops, LeavesWhiteout}
 use Rattle.snap_layer.specs.Holds.{Places, place}
 use Rattle.snap_layer.proofs.Frames.{split_ℕ, walk_push}
 use Rattle.snap_layer.proofs.Makes.{Makes}
@@ -123,7 +123,7 @@ pub covered_names : (u : Tree) → IsLayer u → (p : Names) (i : ℕ) → name_
 covered_names u layer p i = white_names i (without u p).entries p (sorted-without u p layer.sorted_paths) (at_taken u p)
 
 -- a layer with a whiteout in place of what stood at a path, whose directory stays
-pub record Covered (s t : View) (root : ℕ) (qs : Places) (next : ℕ) (w : Tree) (q : Names) (n : List ℕ) (d : ℕ) : Type 0 where
+pub record Covered (s t : SlotView) (root : ℕ) (qs : Places) (next : ℕ) (w : Tree) (q : Names) (n : List ℕ) (d : ℕ) : Type 0 where
   pub makes : Makes t root qs next w
   pub ways : (x : Names) (c : ℕ) → begins (q ++ n ∷ []) x ≡ false → walk s.entries root x ≡ Some (target.Inode c) → (walk t.entries root x ≡ Some (target.Inode c)) × (t.nodes c ≡ s.nodes c)
   pub leads : walk t.entries root q ≡ Some (target.Inode d)
@@ -131,7 +131,7 @@ pub record Covered (s t : View) (root : ℕ) (qs : Places) (next : ℕ) (w : Tre
 
 -- a layer without what stood at the path of another, which has there what an entry without an inode shows
 pub record Left (u w : Tree) (p : Names) (o : Option Target) : Type 0 where
-  pub leaves : (nodes : ℕ → Option Node) → Leaves u w p (seen nodes o)
+  pub leaves : (nodes : ℕ → Option Node) → Leaves u w p (node_shown nodes o)
   pub names : (i : ℕ) → name_count i w.entries ≡ name_count i (without u p).entries
   pub bodies : w.bodies ≡ (without u p).bodies
   pub next : w.next ≡ u.next
@@ -159,14 +159,14 @@ bare_closed e None closed = tt
 bare_closed e (Some target.Whiteout) closed = tt
 bare_closed e (Some (target.Inode c)) closed = absurd (closed c refl)
 
-plain_closed : (nodes : ℕ → Option Node) (o : Option Target) → ((c : ℕ) → o ≡ Some (target.Inode c) → ⊥) → option_and_then number_of (seen nodes o) ≡ None
+plain_closed : (nodes : ℕ → Option Node) (o : Option Target) → ((c : ℕ) → o ≡ Some (target.Inode c) → ⊥) → option_and_then number_of (node_shown nodes o) ≡ None
 plain_closed nodes None closed = refl
 plain_closed nodes (Some target.Whiteout) closed = refl
 plain_closed nodes (Some (target.Inode c)) closed = absurd (closed c refl)
 
 -- an entry that has no inode now, and what it had, which is released
-module _ (s t : View) (root : ℕ) (ps qs : Places) (next : ℕ) (u : Tree) (m : Makes s root ps next u) (layer : IsLayer u) (q : Names) (n : List ℕ) (d : ℕ) (leads : walk s.entries root q ≡ Some (target.Inode d)) (dir : IsDirAt (s.nodes d))
-    (k : ℕ) (entry : s.entries d n ≡ Some (target.Inode k)) (b : View) (o : Option Target) (closed : (c : ℕ) → o ≡ Some (target.Inode c) → ⊥) (links : Links s b d n o) (frees : Frees b t ps qs k) (w : Tree) (left : Left u w (q ++ n ∷ []) o) where
+module _ (s t : SlotView) (root : ℕ) (ps qs : Places) (next : ℕ) (u : Tree) (m : Makes s root ps next u) (layer : IsLayer u) (q : Names) (n : List ℕ) (d : ℕ) (leads : walk s.entries root q ≡ Some (target.Inode d)) (dir : IsDirAt (s.nodes d))
+    (k : ℕ) (entry : s.entries d n ≡ Some (target.Inode k)) (b : SlotView) (o : Option Target) (closed : (c : ℕ) → o ≡ Some (target.Inode c) → ⊥) (links : Links s b d n o) (frees : Frees b t ps qs k) (w : Tree) (left : Left u w (q ++ n ∷ []) o) where
   abbrev pn : Names
   pn = q ++ n ∷ []
 
@@ -196,7 +196,7 @@ module _ (s t : View) (root : ℕ) (ps qs : Places) (next : ℕ) (u : Tree) (m :
         same c x = elim (split_ℕ c k) [ inl at ↦ subst (λ (y : ℕ). t.entries y x ≡ b.entries y x) (sym at) (frees.leaf j x number_b) | inr other ↦ frees.entries c x other ]
 
     is : at u pn ≡ Some v
-    is = sym (m.shows pn) ∙ ap (seen s.nodes) to_k ∙ node_is
+    is = sym (m.shows pn) ∙ ap (node_shown s.nodes) to_k ∙ node_is
 
     place_is : place ps j ≡ Some k
     place_is = m.filed.placed pn k j to_k (ap (option_and_then number_of) node_is ∙ named)
@@ -215,7 +215,7 @@ module _ (s t : View) (root : ℕ) (ps qs : Places) (next : ℕ) (u : Tree) (m :
 
     -- an inode that another path reaches stays
     reached_elsewhere : name_count j w.entries ≡ 0 → (x : Names) → begins pn x ≡ false → walk s.entries root x ≡ Some (target.Inode k) → ⊥
-    reached_elsewhere none x out to = no_name_at j x w.entries v none (replaces x out ∙ sym (m.shows x) ∙ ap (seen s.nodes) to ∙ node_is) named
+    reached_elsewhere none x out to = no_name_at j x w.entries v none (replaces x out ∙ sym (m.shows x) ∙ ap (node_shown s.nodes) to ∙ node_is) named
 
     node_out : (x : Names) (c : ℕ) → walk s.entries root x ≡ Some (target.Inode c) → begins pn x ≡ false → t.nodes c ≡ s.nodes c
     node_out x c to out = elim (split_ℕ c k) [
@@ -229,7 +229,7 @@ module _ (s t : View) (root : ℕ) (ps qs : Places) (next : ℕ) (u : Tree) (m :
     beside : Beside s t root q n d o
     beside = record { leads = leads; entries = puts_out s t root q n d o m.table leads dir entries; here = entries.here; bare = bare_closed t.entries o closed; nodes = node_out }
 
-    leaves : Leaves u w pn (seen t.nodes o)
+    leaves : Leaves u w pn (node_shown t.nodes o)
     leaves = left.leaves t.nodes
 
     -- another number's place has another key
@@ -344,7 +344,7 @@ module _ (s t : View) (root : ℕ) (ps qs : Places) (next : ℕ) (u : Tree) (m :
     number_none = ap (option_and_then number_of) (links.nodes k) ∙ dir_has_no_number (s.nodes k) dir_k
 
     at_pn : at u pn ≡ s.nodes k
-    at_pn = sym (m.shows pn) ∙ ap (seen s.nodes) to_k
+    at_pn = sym (m.shows pn) ∙ ap (node_shown s.nodes) to_k
 
     at_none : number_at u pn ≡ None
     at_none = ap (option_and_then number_of) at_pn ∙ dir_has_no_number (s.nodes k) dir_k
@@ -357,7 +357,7 @@ module _ (s t : View) (root : ℕ) (ps qs : Places) (next : ℕ) (u : Tree) (m :
     beside_dir : Beside s t root q n d o
     beside_dir = record { leads = leads; entries = entries_out; here = frees.entries d n d_is ∙ links.entries.here; bare = bare_closed t.entries o closed; nodes = λ x c to out. frees.nodes c (not_k x c to out) ∙ links.nodes c }
 
-    leaves_dir : Leaves u w pn (seen t.nodes o)
+    leaves_dir : Leaves u w pn (node_shown t.nodes o)
     leaves_dir = left.leaves t.nodes
 
     other : (i c : ℕ) → place ps i ≡ Some c → c ≡ k → ⊥
@@ -388,14 +388,14 @@ module _ (s t : View) (root : ℕ) (ps qs : Places) (next : ℕ) (u : Tree) (m :
 -- ---- whatever stands there
 
 -- the node at the key
-node_there : (s : View) (root : ℕ) (x : Names) (k : ℕ) → IsTable s root → walk s.entries root x ≡ Some (target.Inode k) → (v : Node) × (s.nodes k ≡ Some v)
+node_there : (s : SlotView) (root : ℕ) (x : Names) (k : ℕ) → IsTable s root → walk s.entries root x ≡ Some (target.Inode k) → (v : Node) × (s.nodes k ≡ Some v)
 node_there s root x k ok to = by (s.nodes k) refl (ok.there x k to)
   where
     by : (o : Option Node) → s.nodes k ≡ o → IsSome o → (v : Node) × (s.nodes k ≡ Some v)
     by None is some = absurd (cc)
     by (Some v) is some = (v, is)
 
-pub drops_makes : (s t : View) (root : ℕ) (ps qs : Places) (next : ℕ) (u : Tree) → Makes s root ps next u → IsLayer u → (q : Names) (n : List ℕ) (d : ℕ) → walk s.entries root q ≡ Some (target.Inode d) → IsDirAt (s.nodes d)
+pub drops_makes : (s t : SlotView) (root : ℕ) (ps qs : Places) (next : ℕ) (u : Tree) → Makes s root ps next u → IsLayer u → (q : Names) (n : List ℕ) (d : ℕ) → walk s.entries root q ≡ Some (target.Inode d) → IsDirAt (s.nodes d)
     → ((y : List ℕ) → IsFree (at u ((q ++ n ∷ []) ++ y ∷ []))) → IsSome (at u (q ++ n ∷ [])) → ((c : ℕ) → s.nodes c ≡ Some node.Whiteout → ⊥)
     → (x : Option Target) → ((c : ℕ) → x ≡ Some (target.Inode c) → ⊥) → (w : Tree) → Left u w (q ++ n ∷ []) x → Drops s t ps qs d n x → Covered s t root qs next w q n d
 drops_makes s t root ps qs next u m layer q n d leads dir clear there plain x closed w left drops = by (s.entries d n) refl drops.releases
@@ -403,11 +403,11 @@ drops_makes s t root ps qs next u m layer q n d leads dir clear there plain x cl
     pn : Names
     pn = q ++ n ∷ []
 
-    b : View
+    b : SlotView
     b = drops.between
 
-    at_entry : at u pn ≡ seen s.nodes (s.entries d n)
-    at_entry = sym (m.shows pn) ∙ ap (seen s.nodes) (walk_push s.entries root d q n leads)
+    at_entry : at u pn ≡ node_shown s.nodes (s.entries d n)
+    at_entry = sym (m.shows pn) ∙ ap (node_shown s.nodes) (walk_push s.entries root d q n leads)
 
     nothing : IsSome {T = Node} None → ⊥
     nothing e = cc
@@ -421,7 +421,7 @@ drops_makes s t root ps qs next u m layer q n d leads dir clear there plain x cl
     -- over a whiteout
     over_whiteout : s.entries d n ≡ Some target.Whiteout → Same b t → qs ≡ ps → Covered s t root qs next w q n d
     over_whiteout is same places =
-        let free : IsFree (at u pn) = subst IsFree (sym (at_entry ∙ ap (seen s.nodes) is)) refl in
+        let free : IsFree (at u pn) = subst IsFree (sym (at_entry ∙ ap (node_shown s.nodes) is)) refl in
         let beside = links_beside s b root q n d m.table leads dir x closed drops.links in
         let stay : (j c : ℕ) → place ps j ≡ Some c → (b.nodes c ≡ s.nodes c) × (b.bodies c ≡ s.bodies c) × (b.counts c ≡ s.counts c) = λ j c at_j. (drops.links.nodes c, drops.links.bodies c, drops.links.counts c) in
         let bodies : w.bodies ≡ u.bodies = left.bodies ∙ ap (λ y. bodies_without y (without u pn).entries u.bodies) (free_has_no_number (at u pn) free) in
@@ -441,14 +441,14 @@ drops_makes s t root ps qs next u m layer q n d leads dir clear there plain x cl
         }
 
     by : (o : Option Target) → s.entries d n ≡ o → Releases b t ps qs o → Covered s t root qs next w q n d
-    by None is rel = absurd (nothing (subst IsSome (at_entry ∙ ap (seen s.nodes) is) there))
+    by None is rel = absurd (nothing (subst IsSome (at_entry ∙ ap (node_shown s.nodes) is) there))
     by (Some target.Whiteout) is rel = over_whiteout is rel.0 rel.1
     by (Some (target.Inode k)) is rel =
         let v = node_there s root pn k m.table (walk_push s.entries root d q n leads ∙ is) in
         by_node k v.0 is v.1 rel
 
 -- what stood at a path gone
-pub dropped_made : (s t : View) (root : ℕ) (ps qs : Places) (next : ℕ) (u : Tree) (path q : Names) (n : List ℕ) (d : ℕ) → Spot s root ps next u path q n d → ((y : List ℕ) → IsFree (at u (path ++ y ∷ []))) → IsSome (at u path) → ((c : ℕ) → s.nodes c ≡ Some node.Whiteout → ⊥)
+pub dropped_made : (s t : SlotView) (root : ℕ) (ps qs : Places) (next : ℕ) (u : Tree) (path q : Names) (n : List ℕ) (d : ℕ) → Spot s root ps next u path q n d → ((y : List ℕ) → IsFree (at u (path ++ y ∷ []))) → IsSome (at u path) → ((c : ℕ) → s.nodes c ≡ Some node.Whiteout → ⊥)
     → (x : Option Target) → ((c : ℕ) → x ≡ Some (target.Inode c) → ⊥) → (w : Tree) → Left u w path x → Drops s t ps qs d n x → Covered s t root qs next w q n d
 dropped_made s t root ps qs next u path q n d spot clear there plain x closed w left drops =
     drops_makes s t root ps qs next u spot.makes spot.layer q n d spot.leads spot.dir (λ y. subst (λ (p : Names). IsFree (at u (p ++ y ∷ []))) spot.splits (clear y)) (subst (λ (p : Names). IsSome (at u p)) spot.splits there) plain x closed w (subst (λ (p : Names). Left u w p x) spot.splits left) drops
@@ -460,14 +460,14 @@ pub nothing_closed : (c : ℕ) → None ≡ Some (target.Inode c) → ⊥
 nothing_closed c e = cc
 
 -- a whiteout in place of what stood at a path
-pub covered : (s t : View) (root : ℕ) (ps qs : Places) (next : ℕ) (u : Tree) (path q : Names) (n : List ℕ) (d : ℕ) → Spot s root ps next u path q n d → HasPlace u path → IsSome (at u path) → ((c : ℕ) → s.nodes c ≡ Some node.Whiteout → ⊥) → Covers s t ps qs d n → Covered s t root qs next (with_node u path node.Whiteout) q n d
+pub covered : (s t : SlotView) (root : ℕ) (ps qs : Places) (next : ℕ) (u : Tree) (path q : Names) (n : List ℕ) (d : ℕ) → Spot s root ps next u path q n d → HasPlace u path → IsSome (at u path) → ((c : ℕ) → s.nodes c ≡ Some node.Whiteout → ⊥) → LeavesWhiteout s t ps qs d n → Covered s t root qs next (with_node u path node.Whiteout) q n d
 covered s t root ps qs next u path q n d spot fits there plain covers =
     dropped_made s t root ps qs next u path q n d spot fits.clear there plain (Some target.Whiteout) whiteout_closed (with_node u path node.Whiteout) (left_covered u spot.layer path) covers
 
-pub covered_made : (s t : View) (root : ℕ) (ps qs : Places) (next : ℕ) (u : Tree) (path q : Names) (n : List ℕ) (d : ℕ) → Spot s root ps next u path q n d → HasPlace u path → IsSome (at u path) → ((c : ℕ) → s.nodes c ≡ Some node.Whiteout → ⊥) → Covers s t ps qs d n → Makes t root qs next (with_node u path node.Whiteout)
+pub covered_made : (s t : SlotView) (root : ℕ) (ps qs : Places) (next : ℕ) (u : Tree) (path q : Names) (n : List ℕ) (d : ℕ) → Spot s root ps next u path q n d → HasPlace u path → IsSome (at u path) → ((c : ℕ) → s.nodes c ≡ Some node.Whiteout → ⊥) → LeavesWhiteout s t ps qs d n → Makes t root qs next (with_node u path node.Whiteout)
 covered_made s t root ps qs next u path q n d spot fits there plain covers = (covered s t root ps qs next u path q n d spot fits there plain covers).makes
 
 -- nothing in its place
-pub taken_made : (s t : View) (root : ℕ) (ps qs : Places) (next : ℕ) (u : Tree) (path q : Names) (n : List ℕ) (d : ℕ) → Spot s root ps next u path q n d → IsTakeable u path → ((c : ℕ) → s.nodes c ≡ Some node.Whiteout → ⊥) → Drops s t ps qs d n None → Makes t root qs next (without u path)
+pub taken_made : (s t : SlotView) (root : ℕ) (ps qs : Places) (next : ℕ) (u : Tree) (path q : Names) (n : List ℕ) (d : ℕ) → Spot s root ps next u path q n d → IsTakeable u path → ((c : ℕ) → s.nodes c ≡ Some node.Whiteout → ⊥) → Drops s t ps qs d n None → Makes t root qs next (without u path)
 taken_made s t root ps qs next u path q n d spot fits plain drops =
     (dropped_made s t root ps qs next u path q n d spot fits.clear fits.there plain None nothing_closed (without u path) (left_taken u path) drops).makes

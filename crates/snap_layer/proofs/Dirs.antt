@@ -20,7 +20,7 @@ use Rattle.snap_layer.specs.declared.inode.Target.{Target}
 use Rattle.snap_layer.specs.declared.inode.Target.TheVariants as target
 use Rattle.snap_layer.specs.Tree.{path_cmp, Tree, at, is_dir, names_below, Entries, IsDirAt}
 use Rattle.snap_layer.specs.Directory.{Directory, dir_of, entry}
-use Rattle.snap_layer.specs.Walk.{walk, entry_at, node_at, seen, stands, view_of, IsTable}
+use Rattle.snap_layer.specs.Walk.{walk, entry_at, node_at, node_shown, stands, view_of, IsTable}
 use Rattle.snap_layer.specs.Holds.{Holds}
 use Rattle.snap_layer.specs.Reached.{OnlyPath}
 use Rattle.snap_layer.specs.Rows.{name_cmp, items_at}
@@ -84,7 +84,7 @@ module _ (s : Slots Inode) (root key : ℕ) (h : Holds s root) (p : OnlyPath s r
 
   -- the directory's node is what stands at its path
   pub own_node : at v.layer v.path ≡ node_at s key
-  own_node = ap (λ (d : Directory). at d.layer d.path) (sym view) ∙ stood p.0 ∙ ap (seen (node_at s)) p.1.0
+  own_node = ap (λ (d : Directory). at d.layer d.path) (sym view) ∙ stood p.0 ∙ ap (node_shown (node_at s)) p.1.0
 
   -- the names of its items are those below its path
   pub names_in : IsTable (view_of s) root → IsStrictlySortedBy name_cmp (keys_of (items_at s key)) → keys_of (items_at s key) ≡ names_below v.path v.layer.entries
@@ -94,21 +94,21 @@ module _ (s : Slots Inode) (root key : ℕ) (h : Holds s root) (p : OnlyPath s r
 
   module _ (n : List ℕ) where
     -- the entry's node is what stands at the path and the name
-    name_node : at v.layer (v.path ++ n ∷ []) ≡ seen (node_at s) (entry_at s key n)
-    name_node = ap (λ (d : Directory). at d.layer (d.path ++ n ∷ [])) (sym view) ∙ stood (p.0 ++ n ∷ []) ∙ ap (seen (node_at s)) (walk_push (entry_at s) root key p.0 n p.1.0)
+    name_node : at v.layer (v.path ++ n ∷ []) ≡ node_shown (node_at s) (entry_at s key n)
+    name_node = ap (λ (d : Directory). at d.layer (d.path ++ n ∷ [])) (sym view) ∙ stood (p.0 ++ n ∷ []) ∙ ap (node_shown (node_at s)) (walk_push (entry_at s) root key p.0 n p.1.0)
 
     pub entry_none : entry_at s key n ≡ None → entry v n ≡ None
-    entry_none none = ap (option_map (λ (x : Node). (x, dir_of v.layer (v.path ++ n ∷ []) x))) (name_node ∙ ap (seen (node_at s)) none)
+    entry_none none = ap (option_map (λ (x : Node). (x, dir_of v.layer (v.path ++ n ∷ []) x))) (name_node ∙ ap (node_shown (node_at s)) none)
 
-    pub entry_leaf : (w : Target) (x : Node) → entry_at s key n ≡ Some w → seen (node_at s) (Some w) ≡ Some x → is_dir x ≡ false → entry v n ≡ Some (x, None)
+    pub entry_leaf : (w : Target) (x : Node) → entry_at s key n ≡ Some w → node_shown (node_at s) (Some w) ≡ Some x → is_dir x ≡ false → entry v n ≡ Some (x, None)
     entry_leaf w x is node leaf =
-        ap (option_map (λ (y : Node). (y, dir_of v.layer (v.path ++ n ∷ []) y))) (name_node ∙ ap (seen (node_at s)) is ∙ node)
+        ap (option_map (λ (y : Node). (y, dir_of v.layer (v.path ++ n ∷ []) y))) (name_node ∙ ap (node_shown (node_at s)) is ∙ node)
         ∙ ap (λ (o : Option Directory). Some (x, o)) (no_dir v.layer (v.path ++ n ∷ []) x leaf)
 
     pub entry_dir : (c : ℕ) (x : Node) (q : OnlyPath s root c) → entry_at s key n ≡ Some (target.Inode c) → node_at s c ≡ Some x → is_dir x ≡ true → entry v n ≡ Some (x, Some (record { layer = t; path = q.0 }))
     entry_dir c x q is node dir =
         let leads : walk (entry_at s) root (p.0 ++ n ∷ []) ≡ Some (target.Inode c) = walk_push (entry_at s) root key p.0 n p.1.0 ∙ is in
-        ap (option_map (λ (y : Node). (y, dir_of v.layer (v.path ++ n ∷ []) y))) (name_node ∙ ap (seen (node_at s)) is ∙ node)
+        ap (option_map (λ (y : Node). (y, dir_of v.layer (v.path ++ n ∷ []) y))) (name_node ∙ ap (node_shown (node_at s)) is ∙ node)
         ∙ ap (λ (o : Option Directory). Some (x, o)) (a_dir v.layer (v.path ++ n ∷ []) x dir
         ∙ ap (λ (d : Directory). Some (record { layer = d.layer; path = d.path ++ n ∷ [] })) (sym view)
         ∙ ap (λ (y : Names). Some (record { layer = t; path = y })) (q.1.1 (p.0 ++ n ∷ []) leads))

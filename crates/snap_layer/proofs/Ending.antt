@@ -1,5 +1,5 @@
 -- The files that end with a directory: counted entry by entry.
-use Rattle.std.proofs.Common.{◌≡◌, inl, inr, ℕ, ◌+◌, ◌≤◌, Bool, true, false, cond, List, [], ◌∷◌, ◌++◌, length, take, Option, Some, None, IsSome, refl, sym, ap, subst, ◌∙◌, arith, length-append}
+use Rattle.std.proofs.Common.{◌≡◌, inl, inr, ℕ, ◌+◌, ◌<◌, ◌≤◌, Bool, true, false, cond, List, [], ◌∷◌, ◌++◌, length, take, Option, Some, None, IsSome, refl, sym, ap, subst, ◌∙◌, arith, length-append}
 use Rattle.std.specs.Prelude.{filter, is_some, count_by, ◌==◌, if◌then◌else◌}
 use Rattle.std.specs.declared.cmp.Ordering.TheVariants.{Less}
 use Rattle.std.specs.Ordering.{is_eq, nat_cmp}
@@ -24,7 +24,7 @@ use Rattle.snap_layer.specs.Edits.{bodies_named, bodies_unnamed, inside, outside
 use Rattle.snap_layer.specs.Rows.{own}
 use Rattle.snap_layer.specs.declared.totals.Totals.{Totals}
 use Rattle.snap_layer.specs.Totals.{path_count, Counts}
-use Rattle.snap_layer.specs.Ended.{has_all, ended, ended_in, ended_number, taken_by}
+use Rattle.snap_layer.specs.Ended.{has_all, ended, ended_in, ended_number, body_totals, met_of, AreMet}
 use Rattle.snap_layer.proofs.Counting.{count_of_bodies, dirs, weight_of_body, whites}
 use Rattle.snap_layer.proofs.Inside.{found_each}
 use Rattle.snap_layer.proofs.Kept.{node_with_number}
@@ -177,7 +177,7 @@ module _ (t : Tree) (ok : IsLayer t) where
     pieces None = (refl, refl)
     pieces (Some k) = by (has_all t post k) (body t k)
       where
-        by : (c : Bool) (x : Option Body) → ((if c then taken_by x else (0, 0)).0 ≡ cond c (weight_of_body (λ b. 1) x) 0) × ((if c then taken_by x else (0, 0)).1 ≡ cond c (weight_of_body body_blocks x) 0)
+        by : (c : Bool) (x : Option Body) → ((if c then body_totals x else (0, 0)).0 ≡ cond c (weight_of_body (λ b. 1) x) 0) × ((if c then body_totals x else (0, 0)).1 ≡ cond c (weight_of_body body_blocks x) 0)
         by true None = (refl, refl)
         by true (Some b) = (refl, refl)
         by false x = (refl, refl)
@@ -265,8 +265,8 @@ pub all_end : (t : Tree) (n : Node) (k : ℕ) (b : Body) (blocks : ℕ) (es : En
 all_end t n k b blocks es number is weight all =
     let test : has_all t es k ≡ true = grind (arith, nat_tests) in
     (λ i. (1, weight i))
-    ∙ sym (ap taken_by is)
-    ∙ sym (cond-true (has_all t es k) (taken_by (body t k)) (0, 0) test)
+    ∙ sym (ap body_totals is)
+    ∙ sym (cond-true (has_all t es k) (body_totals (body t k)) (0, 0) test)
     ∙ sym (ap (λ (o : Option ℕ). ended_number t o es) number)
 
 pub start_entries : (p : Names) (o : Option Node) (rest others : Entries) → own p o ++ rest ≡ own p o ++ others → rest ≡ others
@@ -327,3 +327,30 @@ counted_one k q n rest left test one tested is =
     small : (b : Bool) → cond b 1 0 ≤ 1
     small true = omega arith
     small false = omega arith
+
+-- ---- counts of the names that have come
+
+-- one name more of its own number
+pub one_name : (k : ℕ) (pre : Entries) (q : Names) (n : Node) → number_of n ≡ Some k → name_count k (pre ++ (q, n) ∷ []) ≡ name_count k pre + 1
+one_name k pre q n is = omega (arith, names_append k pre ((q, n) ∷ []), names_cons k q n [], ap {B = ℕ} (λ (b : Bool). cond b 1 0) (has_its_number k n is))
+
+-- and none of another
+no_name : (k j : ℕ) (pre : Entries) (q : Names) (n : Node) → number_of n ≡ Some j → (k ≡ j → ⊥) → name_count k (pre ++ (q, n) ∷ []) ≡ name_count k pre
+no_name k j pre q n is apart = omega (arith, names_append k pre ((q, n) ∷ []), names_cons k q n [], ap {B = ℕ} (λ (b : Bool). cond b 1 0) (other_name k j n is apart))
+
+-- the name was counted
+pub met_more : (t : Tree) (pre : Entries) (q : Names) (n : Node) (j : ℕ) (old new : List (ℕ × ℕ)) → number_of n ≡ Some j → AreMet t pre old
+    → ((k : ℕ) → met_of new k ≡ cond (is_at (nat_cmp j) k) (met_of old j + 1) (met_of old k)) → AreMet t (pre ++ (q, n) ∷ []) new
+met_more t pre q n j old new is met counts k several = elim (split_number j k) [
+  | inl same ↦ counts k ∙ cond-true (is_at (nat_cmp j) k) (met_of old j + 1) (met_of old k) same.1
+      ∙ ap (λ (m : ℕ). m + 1) (met j (subst (λ (i : ℕ). 1 < name_count i t.entries) (sym same.0) several))
+      ∙ sym (one_name j pre q n is) ∙ ap (λ (i : ℕ). name_count i (pre ++ (q, n) ∷ [])) same.0
+  | inr apart ↦ counts k ∙ cond-false (is_at (nat_cmp j) k) (met_of old j + 1) (met_of old k) apart.1 ∙ met k several ∙ sym (no_name k j pre q n is apart.0)
+]
+
+-- its file has one name alone, which isn't counted
+pub met_alone : (t : Tree) (pre : Entries) (q : Names) (n : Node) (j : ℕ) (met : List (ℕ × ℕ)) → number_of n ≡ Some j → name_count j t.entries ≤ 1 → AreMet t pre met → AreMet t (pre ++ (q, n) ∷ []) met
+met_alone t pre q n j counts is alone met k several = elim (split_number j k) [
+  | inl same ↦ absurd (omega (arith, several, alone, ap (λ (i : ℕ). name_count i t.entries) same.0))
+  | inr apart ↦ met k several ∙ sym (no_name k j pre q n is apart.0)
+]

@@ -22,7 +22,7 @@ use Rattle.snap_layer.proofs.Replacing.{clears_place, IsLayer-with_node, inode_c
 use Rattle.snap_layer.proofs.Laws.{without-with_entry}
 use Rattle.snap_layer.specs.declared.inode.Target.{Target}
 use Rattle.snap_layer.specs.declared.inode.Target.TheVariants as target
-use Rattle.snap_layer.specs.Walk.{View, walk, seen, Links, Raises, Gains, Same, Frees, Releases, Adds, Enters}
+use Rattle.snap_layer.specs.Walk.{SlotView, walk, node_shown, Links, Raises, Gains, Same, Frees, Releases, Adds, Enters}
 use Rattle.snap_layer.specs.Walk as tables
 use Rattle.snap_layer.proofs.Slots.{puts_other}
 use Rattle.snap_layer.specs.Holds.{Places, place}
@@ -74,7 +74,7 @@ module _ (ps : Places) (x k : ℕ) (sorted : IsStrictlySortedBy nat_cmp (keys_of
       by q false is = cond-false _ _ _ is ∙ ap (λ o. cond (is_at (nat_cmp q) j) None o) (cond-false _ _ _ is)
 
   -- what is released is so without the number
-  pub frees_without : (s t : View) (qs : Places) (c : ℕ) → Frees s t put qs c → Frees s t ps (remove_entry (is_at (nat_cmp x)) qs) c
+  pub frees_without : (s t : SlotView) (qs : Places) (c : ℕ) → Frees s t put qs c → Frees s t ps (remove_entry (is_at (nat_cmp x)) qs) c
   frees_without s t qs c f = record {
     entries = f.entries;
     nodes = f.nodes;
@@ -88,17 +88,17 @@ module _ (ps : Places) (x k : ℕ) (sorted : IsStrictlySortedBy nat_cmp (keys_of
     dir_slot = f.dir_slot;
   }
 
-  pub releases_without : (s t : View) (qs : Places) (o : Option Target) → Releases s t put qs o → Releases s t ps (remove_entry (is_at (nat_cmp x)) qs) o
+  pub releases_without : (s t : SlotView) (qs : Places) (o : Option Target) → Releases s t put qs o → Releases s t ps (remove_entry (is_at (nat_cmp x)) qs) o
   releases_without s t qs None r = (r.0, ap (remove_entry (is_at (nat_cmp x))) r.1 ∙ back)
   releases_without s t qs (Some target.Whiteout) r = (r.0, ap (remove_entry (is_at (nat_cmp x))) r.1 ∙ back)
   releases_without s t qs (Some (target.Inode c)) r = frees_without s t qs c r
 
-  pub clears_without : (s t : View) (qs : Places) (d : ℕ) (n : List ℕ) (o : Option Target) → s.entries d n ≡ o → tables.Clears s t put qs d n o → tables.Clears s t ps (remove_entry (is_at (nat_cmp x)) qs) d n o
+  pub clears_without : (s t : SlotView) (qs : Places) (d : ℕ) (n : List ℕ) (o : Option Target) → s.entries d n ≡ o → tables.Clears s t put qs d n o → tables.Clears s t ps (remove_entry (is_at (nat_cmp x)) qs) d n o
   clears_without s t qs d n None is r = (r.0, ap (remove_entry (is_at (nat_cmp x))) r.1 ∙ back)
   clears_without s t qs d n (Some w) is r = record { between = r.between; links = r.links; releases = releases_without r.between t qs (s.entries d n) r.releases }
 
   -- the number keeps its place
-  pub stays_placed : (s t : View) (qs : Places) (d : ℕ) (n : List ℕ) → (option_and_then number_of (seen s.nodes (s.entries d n)) ≡ Some x → ⊥) → tables.Clears s t put qs d n (s.entries d n) → IsSome (place qs x)
+  pub stays_placed : (s t : SlotView) (qs : Places) (d : ℕ) (n : List ℕ) → (option_and_then number_of (node_shown s.nodes (s.entries d n)) ≡ Some x → ⊥) → tables.Clears s t put qs d n (s.entries d n) → IsSome (place qs x)
   stays_placed s t qs d n apart clears = by (s.entries d n) refl clears
     where
       here : IsSome (place put x)
@@ -110,7 +110,7 @@ module _ (ps : Places) (x k : ℕ) (sorted : IsStrictlySortedBy nat_cmp (keys_of
       taken : (j : ℕ) → (j ≡ x → ⊥) → qs ≡ remove_entry (is_at (nat_cmp j)) put → IsSome (place qs x)
       taken j other e = subst (λ (z : Places). IsSome (place z x)) (sym e) (subst IsSome (sym (lookup-remove_entry nat_cmp_total nat_cmp-IsAntisymmetric j x put sorted_put ∙ cond-false (is_at (nat_cmp x) j) None (place put x) (apart_from nat_cmp_total nat_cmp-IsAntisymmetric x j other))) here)
 
-      freed : (b : View) (c : ℕ) → s.entries d n ≡ Some (target.Inode c) → b.nodes c ≡ s.nodes c → Frees b t put qs c → IsSome (place qs x)
+      freed : (b : SlotView) (c : ℕ) → s.entries d n ≡ Some (target.Inode c) → b.nodes c ≡ s.nodes c → Frees b t put qs c → IsSome (place qs x)
       freed b c is node_same f = at_number (option_and_then number_of (b.nodes c)) refl
         where
           at_number : (o : Option ℕ) → option_and_then number_of (b.nodes c) ≡ o → IsSome (place qs x)
@@ -121,7 +121,7 @@ module _ (ps : Places) (x k : ℕ) (sorted : IsStrictlySortedBy nat_cmp (keys_of
               split_more l = elim (split_ℕ l 0) [ inl none ↦ inr (omega (arith, none)) | inr some ↦ elim (split_ℕ l 1) [ inl one ↦ inr (omega (arith, one)) | inr more ↦ inl (omega (arith, some, more)) ] ]
 
               other : j ≡ x → ⊥
-              other e = apart (ap (λ o. option_and_then number_of (seen s.nodes o)) is ∙ ap (option_and_then number_of) (sym node_same) ∙ number ∙ ap (λ (y : ℕ). Some y) e)
+              other e = apart (ap (λ o. option_and_then number_of (node_shown s.nodes o)) is ∙ ap (option_and_then number_of) (sym node_same) ∙ number ∙ ap (λ (y : ℕ). Some y) e)
 
       by : (o : Option Target) → s.entries d n ≡ o → tables.Clears s t put qs d n o → IsSome (place qs x)
       by None is r = same_place r.1
@@ -130,7 +130,7 @@ module _ (ps : Places) (x k : ℕ) (sorted : IsStrictlySortedBy nat_cmp (keys_of
 
 -- ---- what is cleared
 
-module _ (s t : View) (ps qs : Places) (d : ℕ) (n : List ℕ) (apart : s.entries d n ≡ Some (target.Inode d) → ⊥) where
+module _ (s t : SlotView) (ps qs : Places) (d : ℕ) (n : List ℕ) (apart : s.entries d n ≡ Some (target.Inode d) → ⊥) where
   -- the directory is as it was
   pub clears_dir : tables.Clears s t ps qs d n (s.entries d n) → t.nodes d ≡ s.nodes d
   clears_dir clears = by (s.entries d n) refl clears
@@ -150,7 +150,7 @@ module _ (s t : View) (ps qs : Places) (d : ℕ) (n : List ℕ) (apart : s.entri
       by (Some (target.Inode c)) is r = absurd (no_some target.Whiteout (sym none ∙ (subst (Releases r.between t ps qs) is r.releases).entries d n (λ e. apart (is ∙ ap (λ (y : ℕ). Some (target.Inode y)) (sym e))) ∙ r.links.entries.here))
 
 -- what it isn't about is as it was
-pub clears_other : (s t : View) (ps qs : Places) (d : ℕ) (n : List ℕ) (k : ℕ) → (s.entries d n ≡ Some (target.Inode k) → ⊥) → tables.Clears s t ps qs d n (s.entries d n) → (t.nodes k ≡ s.nodes k) × (t.bodies k ≡ s.bodies k) × (t.counts k ≡ s.counts k)
+pub clears_other : (s t : SlotView) (ps qs : Places) (d : ℕ) (n : List ℕ) (k : ℕ) → (s.entries d n ≡ Some (target.Inode k) → ⊥) → tables.Clears s t ps qs d n (s.entries d n) → (t.nodes k ≡ s.nodes k) × (t.bodies k ≡ s.bodies k) × (t.counts k ≡ s.counts k)
 clears_other s t ps qs d n k apart clears = by (s.entries d n) refl clears
   where
     by : (o : Option Target) → s.entries d n ≡ o → tables.Clears s t ps qs d n o → (t.nodes k ≡ s.nodes k) × (t.bodies k ≡ s.bodies k) × (t.counts k ≡ s.counts k)
@@ -164,7 +164,7 @@ clears_other s t ps qs d n k apart clears = by (s.entries d n) refl clears
         (freed.nodes k other ∙ r.links.nodes k, freed.bodies k other ∙ r.links.bodies k, freed.counts k other ∙ r.links.counts k)
 
 -- an entry for a leaf, and a link more of it
-pub gained : (s b t : View) (d : ℕ) (n : List ℕ) (k : ℕ) → Links s b d n (Some (target.Inode k)) → Raises b t k → Gains s t d n k
+pub gained : (s b t : SlotView) (d : ℕ) (n : List ℕ) (k : ℕ) → Links s b d n (Some (target.Inode k)) → Raises b t k → Gains s t d n k
 gained s b t d n k links raises = record {
   entries = record {
     here = raises.entries d n ∙ links.entries.here;
@@ -179,7 +179,7 @@ gained s b t d n k links raises = record {
 }
 
 -- and so is each other entry of another inode
-pub clears_entry : (s t : View) (ps qs : Places) (d : ℕ) (n : List ℕ) (k : ℕ) (m : List ℕ) → (s.entries d n ≡ Some (target.Inode k) → ⊥) → (k ≡ d → m ≡ n → ⊥) → tables.Clears s t ps qs d n (s.entries d n) → t.entries k m ≡ s.entries k m
+pub clears_entry : (s t : SlotView) (ps qs : Places) (d : ℕ) (n : List ℕ) (k : ℕ) (m : List ℕ) → (s.entries d n ≡ Some (target.Inode k) → ⊥) → (k ≡ d → m ≡ n → ⊥) → tables.Clears s t ps qs d n (s.entries d n) → t.entries k m ≡ s.entries k m
 clears_entry s t ps qs d n k m apart beside clears = by (s.entries d n) refl clears
   where
     by : (o : Option Target) → s.entries d n ≡ o → tables.Clears s t ps qs d n o → t.entries k m ≡ s.entries k m
@@ -211,7 +211,7 @@ covered_new u layer p v b fits =
     let same : without (with_node u p node.Whiteout) p ≡ without u p = without-with_entry (without u p) c.layer p node.Whiteout c.empty refl in
     λ i. record (with_entry (same i) p v) { bodies = insert_entry nat_cmp (with_entry (same i) p v).bodies u.next b; next = u.next + 1 }
 
-pub entered_made : (s t : View) (root : ℕ) (ps qs : Places) (next : ℕ) (u : Tree) (path q : Names) (n : List ℕ) (d : ℕ) → Spot s root ps next u path q n d → HasPlace u path → IsPath path → ((c : ℕ) → s.nodes c ≡ Some node.Whiteout → ⊥)
+pub entered_made : (s t : SlotView) (root : ℕ) (ps qs : Places) (next : ℕ) (u : Tree) (path q : Names) (n : List ℕ) (d : ℕ) → Spot s root ps next u path q n d → HasPlace u path → IsPath path → ((c : ℕ) → s.nodes c ≡ Some node.Whiteout → ⊥)
     → (b : Body) → IsLayer (with_new u path (leaf_node u.next b) b)
     → ((v : Node) → ◌≡◌ {A = Option Node} (Some (leaf_node next b)) (Some v) → Enters s t ps qs d n next v (Some b) 1) → Makes t root qs (next + 1) (with_new u path (leaf_node u.next b) b)
 entered_made s t root ps qs next u path q n d spot fits is_path plain b whole enters = by (s.entries d n) refl e.clears
@@ -258,19 +258,19 @@ entered_made s t root ps qs next u path q n d spot fits is_path plain b whole en
         subst (λ (z : Tree). Makes t root qs (next + 1) z) (ap (λ (p : Names). with_new w p v b) (sym spot.splits) ∙ covered_new u spot.layer path v b fits) made
       where
         stands : (y : Target) → s.entries d n ≡ Some y → IsSome (at u path)
-        stands y at_y = subst IsSome (sym (ap (at u) spot.splits ∙ sym (spot.makes.shows pn) ∙ ap (seen s.nodes) (walk_push s.entries root d q n spot.leads ∙ at_y))) (shown y at_y)
+        stands y at_y = subst IsSome (sym (ap (at u) spot.splits ∙ sym (spot.makes.shows pn) ∙ ap (node_shown s.nodes) (walk_push s.entries root d q n spot.leads ∙ at_y))) (shown y at_y)
           where
-            shown : (z : Target) → s.entries d n ≡ Some z → IsSome (seen s.nodes (Some z))
+            shown : (z : Target) → s.entries d n ≡ Some z → IsSome (node_shown s.nodes (Some z))
             shown target.Whiteout at_z = refl
             shown (target.Inode c) at_z = spot.makes.table.there pn c (walk_push s.entries root d q n spot.leads ∙ at_z)
 
 -- the next number is not that of what stands there
-pub other_number : (s : View) (root : ℕ) (ps : Places) (next : ℕ) (u : Tree) (path q : Names) (n : List ℕ) (d : ℕ) → Spot s root ps next u path q n d → option_and_then number_of (seen s.nodes (s.entries d n)) ≡ Some next → ⊥
+pub other_number : (s : SlotView) (root : ℕ) (ps : Places) (next : ℕ) (u : Tree) (path q : Names) (n : List ℕ) (d : ℕ) → Spot s root ps next u path q n d → option_and_then number_of (node_shown s.nodes (s.entries d n)) ≡ Some next → ⊥
 other_number s root ps next u path q n d spot is =
-    not_next u (q ++ n ∷ []) spot.layer (ap (option_and_then number_of) (sym (spot.makes.shows (q ++ n ∷ [])) ∙ ap (seen s.nodes) (walk_push s.entries root d q n spot.leads)) ∙ is ∙ ap (λ (x : ℕ). Some x) spot.makes.last)
+    not_next u (q ++ n ∷ []) spot.layer (ap (option_and_then number_of) (sym (spot.makes.shows (q ++ n ∷ [])) ∙ ap (node_shown s.nodes) (walk_push s.entries root d q n spot.leads)) ∙ is ∙ ap (λ (x : ℕ). Some x) spot.makes.last)
 
 -- a directory is not its own entry
-pub not_itself : (s : View) (root : ℕ) (ps : Places) (next : ℕ) (u : Tree) (path q : Names) (n : List ℕ) (d : ℕ) → Spot s root ps next u path q n d → s.entries d n ≡ Some (target.Inode d) → ⊥
+pub not_itself : (s : SlotView) (root : ℕ) (ps : Places) (next : ℕ) (u : Tree) (path q : Names) (n : List ℕ) (d : ℕ) → Spot s root ps next u path q n d → s.entries d n ≡ Some (target.Inode d) → ⊥
 not_itself s root ps next u path q n d spot is = longer q n (spot.makes.table.forest (q ++ n ∷ []) q d spot.dir (walk_push s.entries root d q n spot.leads ∙ is) spot.leads)
   where
     longer : (xs : Names) (y : List ℕ) → xs ++ y ∷ [] ≡ xs → ⊥

@@ -21,7 +21,7 @@ use Rattle.snap_layer.proofs.Moves.{apart_below, not_of_parent, HasParent-withou
 use Rattle.snap_layer.proofs.Replacing.{clears_place, with_node-free, without_nothing}
 use Rattle.snap_layer.specs.declared.inode.Target.{Target}
 use Rattle.snap_layer.specs.declared.inode.Target.TheVariants as target
-use Rattle.snap_layer.specs.Walk.{View, Table, walk, seen, Links, Frees, Releases, Drops, Covers, Gains, Shifted, Renames, Relocates}
+use Rattle.snap_layer.specs.Walk.{SlotView, Table, walk, node_shown, Links, Frees, Releases, Drops, LeavesWhiteout, Gains, Shifted, Renames, Relocates}
 use Rattle.snap_layer.specs.Walk as tables
 use Rattle.snap_layer.specs.Holds.{Places, place}
 use Rattle.snap_layer.proofs.Frames.{split_ℕ, split_name, walk_push}
@@ -69,11 +69,11 @@ erased_same : (e f : Table) (d : ℕ) (n : List ℕ) (c : ℕ) (m : List ℕ) �
 unfolding erased
 erased_same e f d n c m same = λ i. pick (split_ℕ c d) (pick (split_name m n) None (same i)) (same i)
 
-abbrev erase : View → ℕ → List ℕ → View
+abbrev erase : SlotView → ℕ → List ℕ → SlotView
 erase v d n = record v { entries = erased v.entries d n }
 
 module _ (d : ℕ) (n : List ℕ) where
-  erase_links : (s b : View) (w : Option Target) → Links s b d n w → Links s (erase b d n) d n None
+  erase_links : (s b : SlotView) (w : Option Target) → Links s b d n w → Links s (erase b d n) d n None
   erase_links s b w links = record {
     entries = record {
       here = erased_here b.entries d n;
@@ -85,7 +85,7 @@ module _ (d : ℕ) (n : List ℕ) where
     counts = links.counts;
   }
 
-  erase_releases : (b t : View) (ps qs : Places) (o : Option Target) → Releases b t ps qs o → Releases (erase b d n) (erase t d n) ps qs o
+  erase_releases : (b t : SlotView) (ps qs : Places) (o : Option Target) → Releases b t ps qs o → Releases (erase b d n) (erase t d n) ps qs o
   erase_releases b t ps qs None r = (record { entries = λ c m. erased_same b.entries t.entries d n c m (r.0.entries c m); nodes = r.0.nodes; bodies = r.0.bodies; counts = r.0.counts }, r.1)
   erase_releases b t ps qs (Some target.Whiteout) r = (record { entries = λ c m. erased_same b.entries t.entries d n c m (r.0.entries c m); nodes = r.0.nodes; bodies = r.0.bodies; counts = r.0.counts }, r.1)
   erase_releases b t ps qs (Some (target.Inode k)) r = record {
@@ -102,14 +102,14 @@ module _ (d : ℕ) (n : List ℕ) where
   }
 
   -- what was covered is dropped
-  pub erase_covers : (s t : View) (ps qs : Places) → Covers s t ps qs d n → Drops s (erase t d n) ps qs d n None
+  pub erase_covers : (s t : SlotView) (ps qs : Places) → LeavesWhiteout s t ps qs d n → Drops s (erase t d n) ps qs d n None
   erase_covers s t ps qs covers = record {
     between = erase covers.between d n;
     links = erase_links s covers.between (Some target.Whiteout) covers.links;
     releases = erase_releases covers.between t ps qs (s.entries d n) covers.releases;
   }
 
-  pub erase_gains : (s t : View) (k : ℕ) → Gains s t d n k → Gains (erase s d n) t d n k
+  pub erase_gains : (s t : SlotView) (k : ℕ) → Gains s t d n k → Gains (erase s d n) t d n k
   erase_gains s t k gains = record {
     entries = record {
       here = gains.entries.here;
@@ -123,7 +123,7 @@ module _ (d : ℕ) (n : List ℕ) where
     count = gains.count;
   }
 
-  pub erase_shifted : (s t : View) (df : ℕ) (nf : List ℕ) (leaves : Bool) → (df ≡ d → nf ≡ n → ⊥) → Shifted s t df nf d n leaves → Shifted (erase s d n) t df nf d n leaves
+  pub erase_shifted : (s t : SlotView) (df : ℕ) (nf : List ℕ) (leaves : Bool) → (df ≡ d → nf ≡ n → ⊥) → Shifted s t df nf d n leaves → Shifted (erase s d n) t df nf d n leaves
   erase_shifted s t df nf leaves apart sh = record {
     to = sh.to ∙ sym (erased_else s.entries d n df nf apart);
     from = sh.from;
@@ -136,7 +136,7 @@ module _ (d : ℕ) (n : List ℕ) where
 -- ---- what is cleared stays elsewhere
 
 -- another number keeps its place
-pub clears_place_of : (s t : View) (ps qs : Places) (d : ℕ) (n : List ℕ) (j k : ℕ) → IsStrictlySortedBy nat_cmp (keys_of ps) → (option_and_then number_of (seen s.nodes (s.entries d n)) ≡ Some j → ⊥) → place ps j ≡ Some k → tables.Clears s t ps qs d n (s.entries d n) → place qs j ≡ Some k
+pub clears_place_of : (s t : SlotView) (ps qs : Places) (d : ℕ) (n : List ℕ) (j k : ℕ) → IsStrictlySortedBy nat_cmp (keys_of ps) → (option_and_then number_of (node_shown s.nodes (s.entries d n)) ≡ Some j → ⊥) → place ps j ≡ Some k → tables.Clears s t ps qs d n (s.entries d n) → place qs j ≡ Some k
 clears_place_of s t ps qs d n j k sorted apart found clears = by (s.entries d n) refl clears
   where
     same_place : qs ≡ ps → place qs j ≡ Some k
@@ -145,7 +145,7 @@ clears_place_of s t ps qs d n j k sorted apart found clears = by (s.entries d n)
     taken : (i : ℕ) → (i ≡ j → ⊥) → qs ≡ remove_entry (is_at (nat_cmp i)) ps → place qs j ≡ Some k
     taken i out e = ap (λ (z : Places). place z j) e ∙ lookup-remove_entry nat_cmp_total nat_cmp-IsAntisymmetric i j ps sorted ∙ cond-false (is_at (nat_cmp j) i) None (place ps j) (apart_from nat_cmp_total nat_cmp-IsAntisymmetric j i out) ∙ found
 
-    freed : (b : View) (c : ℕ) → s.entries d n ≡ Some (target.Inode c) → b.nodes c ≡ s.nodes c → Frees b t ps qs c → place qs j ≡ Some k
+    freed : (b : SlotView) (c : ℕ) → s.entries d n ≡ Some (target.Inode c) → b.nodes c ≡ s.nodes c → Frees b t ps qs c → place qs j ≡ Some k
     freed b c is node_same f = at_number (option_and_then number_of (b.nodes c)) refl
       where
         at_number : (o : Option ℕ) → option_and_then number_of (b.nodes c) ≡ o → place qs j ≡ Some k
@@ -156,7 +156,7 @@ clears_place_of s t ps qs d n j k sorted apart found clears = by (s.entries d n)
             split_more l = elim (split_ℕ l 0) [ inl none ↦ inr (omega (arith, none)) | inr some ↦ elim (split_ℕ l 1) [ inl one ↦ inr (omega (arith, one)) | inr more ↦ inl (omega (arith, some, more)) ] ]
 
             out : i ≡ j → ⊥
-            out e = apart (ap (λ o. option_and_then number_of (seen s.nodes o)) is ∙ ap (option_and_then number_of) (sym node_same) ∙ number ∙ ap (λ (y : ℕ). Some y) e)
+            out e = apart (ap (λ o. option_and_then number_of (node_shown s.nodes o)) is ∙ ap (option_and_then number_of) (sym node_same) ∙ number ∙ ap (λ (y : ℕ). Some y) e)
 
     by : (o : Option Target) → s.entries d n ≡ o → tables.Clears s t ps qs d n o → place qs j ≡ Some k
     by None is r = same_place r.1
@@ -165,21 +165,21 @@ clears_place_of s t ps qs d n j k sorted apart found clears = by (s.entries d n)
 
 -- ---- at a path
 
-spot_number : (s : View) (root : ℕ) (ps : Places) (next : ℕ) (u : Tree) (path q : Names) (n : List ℕ) (d : ℕ) → Spot s root ps next u path q n d → option_and_then number_of (seen s.nodes (s.entries d n)) ≡ number_at u path
+spot_number : (s : SlotView) (root : ℕ) (ps : Places) (next : ℕ) (u : Tree) (path q : Names) (n : List ℕ) (d : ℕ) → Spot s root ps next u path q n d → option_and_then number_of (node_shown s.nodes (s.entries d n)) ≡ number_at u path
 spot_number s root ps next u path q n d spot = ap (option_and_then number_of) (sym (walk_seen (walk_push s.entries root d q n spot.leads)) ∙ spot.makes.shows (q ++ n ∷ []) ∙ ap (at u) (sym spot.splits))
   where
-    walk_seen : walk s.entries root (q ++ n ∷ []) ≡ s.entries d n → seen s.nodes (walk s.entries root (q ++ n ∷ [])) ≡ seen s.nodes (s.entries d n)
-    walk_seen e = ap (seen s.nodes) e
+    walk_seen : walk s.entries root (q ++ n ∷ []) ≡ s.entries d n → node_shown s.nodes (walk s.entries root (q ++ n ∷ [])) ≡ node_shown s.nodes (s.entries d n)
+    walk_seen e = ap (node_shown s.nodes) e
 
-shown : (s : View) (root : ℕ) (ps : Places) (next : ℕ) (u : Tree) (path q : Names) (n : List ℕ) (d : ℕ) → Spot s root ps next u path q n d → (y : Target) → s.entries d n ≡ Some y → IsSome (at u path)
-shown s root ps next u path q n d spot y is = subst IsSome (sym (ap (at u) spot.splits ∙ sym (spot.makes.shows (q ++ n ∷ [])) ∙ ap (seen s.nodes) (walk_push s.entries root d q n spot.leads ∙ is))) (by y is)
+shown : (s : SlotView) (root : ℕ) (ps : Places) (next : ℕ) (u : Tree) (path q : Names) (n : List ℕ) (d : ℕ) → Spot s root ps next u path q n d → (y : Target) → s.entries d n ≡ Some y → IsSome (at u path)
+shown s root ps next u path q n d spot y is = subst IsSome (sym (ap (at u) spot.splits ∙ sym (spot.makes.shows (q ++ n ∷ [])) ∙ ap (node_shown s.nodes) (walk_push s.entries root d q n spot.leads ∙ is))) (by y is)
   where
-    by : (z : Target) → s.entries d n ≡ Some z → IsSome (seen s.nodes (Some z))
+    by : (z : Target) → s.entries d n ≡ Some z → IsSome (node_shown s.nodes (Some z))
     by target.Whiteout at_z = refl
     by (target.Inode c) at_z = spot.makes.table.there (q ++ n ∷ []) c (walk_push s.entries root d q n spot.leads ∙ at_z)
 
 -- a whiteout in place of what stood at a path
-pub whitened_made : (s t : View) (root : ℕ) (ps qs : Places) (next : ℕ) (u : Tree) (path q : Names) (n : List ℕ) (d : ℕ) → Spot s root ps next u path q n d → HasPlace u path → ((c : ℕ) → s.nodes c ≡ Some node.Whiteout → ⊥) → Covers s t ps qs d n → Makes t root qs next (with_node u path node.Whiteout)
+pub whitened_made : (s t : SlotView) (root : ℕ) (ps qs : Places) (next : ℕ) (u : Tree) (path q : Names) (n : List ℕ) (d : ℕ) → Spot s root ps next u path q n d → HasPlace u path → ((c : ℕ) → s.nodes c ≡ Some node.Whiteout → ⊥) → LeavesWhiteout s t ps qs d n → Makes t root qs next (with_node u path node.Whiteout)
 whitened_made s t root ps qs next u path q n d spot fits plain covers = by (s.entries d n) refl
   where
     by : (o : Option Target) → s.entries d n ≡ o → Makes t root qs next (with_node u path node.Whiteout)
@@ -191,7 +191,7 @@ whitened_made s t root ps qs next u path q n d spot fits plain covers = by (s.en
     by (Some y) at_o = covered_made s t root ps qs next u path q n d spot fits (shown s root ps next u path q n d spot y at_o) plain covers
 
 -- one more name in place of what stood at a path
-pub renamed_made : (s t : View) (root : ℕ) (ps qs : Places) (next : ℕ) (u : Tree) (path q : Names) (n : List ℕ) (d : ℕ) → Spot s root ps next u path q n d → HasPlace u path → ((c : ℕ) → s.nodes c ≡ Some node.Whiteout → ⊥)
+pub renamed_made : (s t : SlotView) (root : ℕ) (ps qs : Places) (next : ℕ) (u : Tree) (path q : Names) (n : List ℕ) (d : ℕ) → Spot s root ps next u path q n d → HasPlace u path → ((c : ℕ) → s.nodes c ≡ Some node.Whiteout → ⊥)
     → (j k : ℕ) (b : Body) → (number_at u path ≡ Some j → ⊥) → place ps j ≡ Some k → body u j ≡ Some b → body (without u path) j ≡ Some b → Renames s t ps qs d n k → Makes t root qs next (with_node u path (leaf_node j b))
 renamed_made s t root ps qs next u path q n d spot fits plain j k b apart found is left re = by (s.entries d n) refl re.clears
   where
@@ -217,7 +217,7 @@ renamed_made s t root ps qs next u path q n d spot fits plain j k b apart found 
         name_made (erase re.cleared d n) t root qs next (without u path) path q n d here (subst IsFree (sym gone) tt) k j b kept left (erase_gains d n re.cleared t k re.gains)
 
 -- a subtree moved in place of what stood at a path
-pub relocated_made : (s t : View) (root : ℕ) (ps qs : Places) (next : ℕ) (u : Tree) (from to qf : Names) (nf : List ℕ) (df : ℕ) (qt : Names) (nt : List ℕ) (dt : ℕ) (leaves : Bool) → Spot s root ps next u from qf nf df → Spot s root ps next u to qt nt dt
+pub relocated_made : (s t : SlotView) (root : ℕ) (ps qs : Places) (next : ℕ) (u : Tree) (from to qf : Names) (nf : List ℕ) (df : ℕ) (qt : Names) (nt : List ℕ) (dt : ℕ) (leaves : Bool) → Spot s root ps next u from qf nf df → Spot s root ps next u to qt nt dt
     → IsMovable u from to → ((c : ℕ) → s.nodes c ≡ Some node.Whiteout → ⊥) → (df ≡ dt → nf ≡ nt → ⊥) → Relocates s t ps qs df nf dt nt leaves → Makes t root qs next (with_moved u from to leaves)
 relocated_made s t root ps qs next u from to qf nf df qt nt dt leaves one two movable plain apart re = by (s.entries dt nt) refl re.clears
   where
@@ -266,7 +266,7 @@ relocated_made s t root ps qs next u from to qf nf df qt nt dt leaves one two mo
 -- ---- what an entry is not
 
 -- the directory of an entry is not what stands there
-pub not_from : (s : View) (root : ℕ) (ps : Places) (next : ℕ) (u : Tree) (from to qf : Names) (nf : List ℕ) (df : ℕ) (qt : Names) (nt : List ℕ) (dt : ℕ) → Spot s root ps next u from qf nf df → Spot s root ps next u to qt nt dt → IsMovable u from to → s.entries dt nt ≡ Some (target.Inode df) → ⊥
+pub not_from : (s : SlotView) (root : ℕ) (ps : Places) (next : ℕ) (u : Tree) (from to qf : Names) (nf : List ℕ) (df : ℕ) (qt : Names) (nt : List ℕ) (dt : ℕ) → Spot s root ps next u from qf nf df → Spot s root ps next u to qt nt dt → IsMovable u from to → s.entries dt nt ≡ Some (target.Inode df) → ⊥
 not_from s root ps next u from to qf nf df qt nt dt one two movable is =
     let whole : qt ++ nt ∷ [] ≡ qf = one.makes.table.forest (qt ++ nt ∷ []) qf df one.dir (walk_push s.entries root dt qt nt two.leads ∙ is) one.leads in
     let within : begins to from ≡ true = begins_from to from (nf ∷ []) (one.splits ∙ ap (λ (z : Names). z ++ nf ∷ []) (sym whole ∙ sym two.splits)) in
@@ -276,10 +276,10 @@ not_from s root ps next u from to qf nf df qt nt dt one two movable is =
     no_bool e = cc
 
 -- a file's inode stands at no name of another number
-pub not_key : (s : View) (root : ℕ) (ps : Places) (next : ℕ) (u : Tree) (path q : Names) (n : List ℕ) (d : ℕ) → Spot s root ps next u path q n d → (j k : ℕ) (b : Body) → place ps j ≡ Some k → body u j ≡ Some b → (number_at u path ≡ Some j → ⊥) → s.entries d n ≡ Some (target.Inode k) → ⊥
+pub not_key : (s : SlotView) (root : ℕ) (ps : Places) (next : ℕ) (u : Tree) (path q : Names) (n : List ℕ) (d : ℕ) → Spot s root ps next u path q n d → (j k : ℕ) (b : Body) → place ps j ≡ Some k → body u j ≡ Some b → (number_at u path ≡ Some j → ⊥) → s.entries d n ≡ Some (target.Inode k) → ⊥
 not_key s root ps next u path q n d spot j k b found is apart here =
-    apart (sym (spot_number s root ps next u path q n d spot) ∙ ap (λ o. option_and_then number_of (seen s.nodes o)) here ∙ ap (option_and_then number_of) (node_found s root ps next u spot.makes j k found b is) ∙ leaf_number j b)
+    apart (sym (spot_number s root ps next u path q n d spot) ∙ ap (λ o. option_and_then number_of (node_shown s.nodes o)) here ∙ ap (option_and_then number_of) (node_found s root ps next u spot.makes j k found b is) ∙ leaf_number j b)
 
 -- where nothing stands at an entry nothing stands at its path
-pub nothing_at : (s : View) (root : ℕ) (ps : Places) (next : ℕ) (u : Tree) (path q : Names) (n : List ℕ) (d : ℕ) → Spot s root ps next u path q n d → s.entries d n ≡ None → at u path ≡ None
+pub nothing_at : (s : SlotView) (root : ℕ) (ps : Places) (next : ℕ) (u : Tree) (path q : Names) (n : List ℕ) (d : ℕ) → Spot s root ps next u path q n d → s.entries d n ≡ None → at u path ≡ None
 nothing_at s root ps next u path q n d spot none = nothing_there s root ps next u path q n d spot.makes spot.splits spot.leads none

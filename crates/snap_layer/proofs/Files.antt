@@ -25,7 +25,7 @@ use Rattle.snap_layer.proofs.Replacing.{with_node-free, other_name, at_taken}
 use Rattle.snap_layer.proofs.Laws.{SetsBody-with_new}
 use Rattle.snap_layer.proofs.Moves.{name_count-with_moved, sorted-without}
 use Rattle.snap_layer.specs.declared.inode.Target.TheVariants as target
-use Rattle.snap_layer.specs.Walk.{View, walk, seen, stands, Adds, Shifted}
+use Rattle.snap_layer.specs.Walk.{SlotView, walk, node_shown, stands, Adds, Shifted}
 use Rattle.snap_layer.specs.Holds.{Places, place, IsLeafOf}
 use Rattle.snap_layer.proofs.Frames.{split_ℕ, walk_push}
 use Rattle.snap_layer.proofs.Makes.{Makes}
@@ -43,7 +43,7 @@ some_same x y e = cc
 abbrev one_if : Bool → ℕ
 one_if b = cond b 1 0
 
-module _ (s : View) (root : ℕ) (ps : Places) (next : ℕ) (u : Tree) (m : Makes s root ps next u) (layer : IsLayer u) where
+module _ (s : SlotView) (root : ℕ) (ps : Places) (next : ℕ) (u : Tree) (m : Makes s root ps next u) (layer : IsLayer u) where
   -- the next number has no place and no name
   pub fresh_place : place ps u.next ≡ None
   fresh_place = by (place ps u.next) refl
@@ -66,7 +66,7 @@ module _ (s : View) (root : ℕ) (ps : Places) (next : ℕ) (u : Tree) (m : Make
       none e = cc
 
   -- a new file or symlink over a free place
-  pub leaf_makes : (t : View) (q : Names) (n : List ℕ) (d : ℕ) → walk s.entries root q ≡ Some (target.Inode d) → IsDirAt (s.nodes d) → IsFree (at u (q ++ n ∷ []))
+  pub leaf_makes : (t : SlotView) (q : Names) (n : List ℕ) (d : ℕ) → walk s.entries root q ≡ Some (target.Inode d) → IsDirAt (s.nodes d) → IsFree (at u (q ++ n ∷ []))
       → (k last : ℕ) (b : Body) → Adds s t d n k (leaf_node u.next b) (Some b) 1 → number_of (leaf_node u.next b) ≡ Some u.next → last ≡ u.next + 1 → Makes t root (insert_entry nat_cmp ps u.next k) last (with_new u (q ++ n ∷ []) (leaf_node u.next b) b)
   leaf_makes t q n d leads dir free k last b adds named after = record {
     table = table s t root q n d (Some (target.Inode k)) beside m.table (adds_fresh s t root q n d m.table leads dir k v (Some b) 1 adds);
@@ -170,7 +170,7 @@ bodies_moved u from to true free = ap (λ o. bodies_without o (outside to u.entr
 bodies_moved u from to false free = ap (λ o. bodies_without o (outside to u.entries) u.bodies) (free_has_no_number (at u to) free)
 
 -- a subtree moved to a free place
-pub shift_makes : (s t : View) (root : ℕ) (ps : Places) (next : ℕ) (u : Tree) → Makes s root ps next u → IsLayer u → (qf : Names) (nf : List ℕ) (df : ℕ) (qt : Names) (nt : List ℕ) (dt : ℕ) (leaves : Bool)
+pub shift_makes : (s t : SlotView) (root : ℕ) (ps : Places) (next : ℕ) (u : Tree) → Makes s root ps next u → IsLayer u → (qf : Names) (nf : List ℕ) (df : ℕ) (qt : Names) (nt : List ℕ) (dt : ℕ) (leaves : Bool)
     → walk s.entries root qf ≡ Some (target.Inode df) → walk s.entries root qt ≡ Some (target.Inode dt) → IsDirAt (s.nodes df) → IsDirAt (s.nodes dt)
     → begins (qf ++ nf ∷ []) (qt ++ nt ∷ []) ≡ false → begins (qt ++ nt ∷ []) (qf ++ nf ∷ []) ≡ false → IsFree (at u (qt ++ nt ∷ []))
     → Shifted s t df nf dt nt leaves → Makes t root ps next (with_moved u (qf ++ nf ∷ []) (qt ++ nt ∷ []) leaves)
@@ -201,7 +201,7 @@ leaf_number k (body_kinds.Symlink t) = refl
 
 -- ---- a move, at its paths
 
-pub moved_made : (s t : View) (root : ℕ) (ps : Places) (next : ℕ) (u : Tree) (from to qf : Names) (nf : List ℕ) (df : ℕ) (qt : Names) (nt : List ℕ) (dt : ℕ) (leaves : Bool) → Spot s root ps next u from qf nf df → Spot s root ps next u to qt nt dt
+pub moved_made : (s t : SlotView) (root : ℕ) (ps : Places) (next : ℕ) (u : Tree) (from to qf : Names) (nf : List ℕ) (df : ℕ) (qt : Names) (nt : List ℕ) (dt : ℕ) (leaves : Bool) → Spot s root ps next u from qf nf df → Spot s root ps next u to qt nt dt
     → IsMovable u from to → IsFree (at u to) → Shifted s t df nf dt nt leaves → Makes t root ps next (with_moved u from to leaves)
 moved_made s t root ps next u from to qf nf df qt nt dt leaves one two movable free sd =
     let inside : begins (qf ++ nf ∷ []) (qt ++ nt ∷ []) ≡ false = (λ i. begins (sym one.splits i) (sym two.splits i)) ∙ movable.not_inside in
@@ -210,19 +210,19 @@ moved_made s t root ps next u from to qf nf df qt nt dt leaves one two movable f
     subst (λ (x : Tree). Makes t root ps next x) (λ i. with_moved u (sym one.splits i) (sym two.splits i) leaves) made
 
 -- what is at the source
-pub source_stands : (s : View) (root : ℕ) (ps : Places) (next : ℕ) (u : Tree) (from q : Names) (n : List ℕ) → Makes s root ps next u → IsLayer u → from ≡ q ++ n ∷ [] → IsSome (at u from) → IsDirAt (stands s root q)
+pub source_stands : (s : SlotView) (root : ℕ) (ps : Places) (next : ℕ) (u : Tree) (from q : Names) (n : List ℕ) → Makes s root ps next u → IsLayer u → from ≡ q ++ n ∷ [] → IsSome (at u from) → IsDirAt (stands s root q)
 source_stands s root ps next u from q n m layer splits there = subst IsDirAt (sym (m.shows q)) (layer.parents q n (subst (λ (p : Names). IsSome (at u p)) splits there))
 
-pub source_entry : (s : View) (root : ℕ) (ps : Places) (next : ℕ) (u : Tree) (from q : Names) (n : List ℕ) (d : ℕ) → Spot s root ps next u from q n d → IsSome (at u from) → s.entries d n ≡ None → ⊥
+pub source_entry : (s : SlotView) (root : ℕ) (ps : Places) (next : ℕ) (u : Tree) (from q : Names) (n : List ℕ) (d : ℕ) → Spot s root ps next u from q n d → IsSome (at u from) → s.entries d n ≡ None → ⊥
 source_entry s root ps next u from q n d spot there none =
-    let e : at u from ≡ None = ap (at u) spot.splits ∙ sym (spot.makes.shows (q ++ n ∷ [])) ∙ ap (seen s.nodes) (walk_push s.entries root d q n spot.leads ∙ none) in
+    let e : at u from ≡ None = ap (at u) spot.splits ∙ sym (spot.makes.shows (q ++ n ∷ [])) ∙ ap (node_shown s.nodes) (walk_push s.entries root d q n spot.leads ∙ none) in
     no_node (subst IsSome e there)
   where
     no_node : IsSome {T = Node} None → ⊥
     no_node e = cc
 
 -- the two entries differ
-pub entries_apart : (s : View) (root : ℕ) (ps : Places) (next : ℕ) (u : Tree) (from to qf : Names) (nf : List ℕ) (df : ℕ) (qt : Names) (nt : List ℕ) (dt : ℕ) → Spot s root ps next u from qf nf df → Spot s root ps next u to qt nt dt → IsMovable u from to → df ≡ dt → nf ≡ nt → ⊥
+pub entries_apart : (s : SlotView) (root : ℕ) (ps : Places) (next : ℕ) (u : Tree) (from to qf : Names) (nf : List ℕ) (df : ℕ) (qt : Names) (nt : List ℕ) (dt : ℕ) → Spot s root ps next u from qf nf df → Spot s root ps next u to qt nt dt → IsMovable u from to → df ≡ dt → nf ≡ nt → ⊥
 entries_apart s root ps next u from to qf nf df qt nt dt one two movable dirs names =
     let front : qf ≡ qt = one.makes.table.forest qf qt dt two.dir (one.leads ∙ ap (λ (k : ℕ). Some (target.Inode k)) dirs) two.leads in
     let same : from ≡ to = one.splits ∙ (λ i. front i ++ names i ∷ []) ∙ sym two.splits in
@@ -232,5 +232,5 @@ entries_apart s root ps next u from to qf nf df qt nt dt one two movable dirs na
     no_bool e = cc
 
 -- where the directory has no entry nothing stands
-pub nothing_there : (s : View) (root : ℕ) (ps : Places) (next : ℕ) (u : Tree) (path q : Names) (n : List ℕ) (d : ℕ) → Makes s root ps next u → path ≡ q ++ n ∷ [] → walk s.entries root q ≡ Some (target.Inode d) → s.entries d n ≡ None → at u path ≡ None
-nothing_there s root ps next u path q n d m splits leads none = ap (at u) splits ∙ sym (m.shows (q ++ n ∷ [])) ∙ ap (seen s.nodes) (walk_push s.entries root d q n leads ∙ none)
+pub nothing_there : (s : SlotView) (root : ℕ) (ps : Places) (next : ℕ) (u : Tree) (path q : Names) (n : List ℕ) (d : ℕ) → Makes s root ps next u → path ≡ q ++ n ∷ [] → walk s.entries root q ≡ Some (target.Inode d) → s.entries d n ≡ None → at u path ≡ None
+nothing_there s root ps next u path q n d m splits leads none = ap (at u) splits ∙ sym (m.shows (q ++ n ∷ [])) ∙ ap (node_shown s.nodes) (walk_push s.entries root d q n leads ∙ none)

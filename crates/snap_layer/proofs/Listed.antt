@@ -30,7 +30,7 @@ use Rattle.snap_layer.specs.declared.inode.Inode.{Inode}
 use Rattle.snap_layer.specs.declared.inode.Inode.TheVariants.{Dir, Leaf}
 use Rattle.snap_layer.specs.declared.inode.Target.{Target}
 use Rattle.snap_layer.specs.declared.inode.Target.TheVariants as target
-use Rattle.snap_layer.specs.Walk.{follow, walk, entry_at, node_of, node_at, seen, stands, view_of}
+use Rattle.snap_layer.specs.Walk.{follow, walk, entry_at, node_of, node_at, node_shown, stands, view_of}
 use Rattle.snap_layer.specs.Rows.{name_cmp, Items, items_from, targets_whiteout, own}
 use Rattle.snap_layer.proofs.Inside.{cmp_front, found_each}
 use Rattle.snap_layer.proofs.Walking.{items_entry, walk_on, walk_off}
@@ -104,13 +104,13 @@ module _ (s : Slots Inode) (root : ℕ) (there : (q : Names) (c : ℕ) → walk 
       by (Some target.Whiteout) f = walk_on (entry_at s) root p target.Whiteout (n ∷ []) f
       by (Some (target.Inode c)) f = walk_on (entry_at s) root p (target.Inode c) (n ∷ []) f ∙ one (entry_at s c n) ∙ sym (items_entry (get s c) n)
 
-  at_name : (n : List ℕ) → at u (p ++ n ∷ []) ≡ seen (node_at s) (lookup (is_at (name_cmp n)) (items_from s o))
-  at_name n = sym (shows (p ++ n ∷ [])) ∙ ap (seen (node_at s)) (reached n (lookup (is_at (name_cmp n)) (items_from s o)) refl)
+  at_name : (n : List ℕ) → at u (p ++ n ∷ []) ≡ node_shown (node_at s) (lookup (is_at (name_cmp n)) (items_from s o))
+  at_name n = sym (shows (p ++ n ∷ [])) ∙ ap (node_shown (node_at s)) (reached n (lookup (is_at (name_cmp n)) (items_from s o)) refl)
 
   some_item : (n : List ℕ) → is_some (at u (p ++ n ∷ [])) ≡ is_some (lookup (is_at (name_cmp n)) (items_from s o))
   some_item n = ap is_some (at_name n) ∙ by (lookup (is_at (name_cmp n)) (items_from s o)) refl
     where
-      by : (x : Option Target) → lookup (is_at (name_cmp n)) (items_from s o) ≡ x → is_some (seen (node_at s) x) ≡ is_some x
+      by : (x : Option Target) → lookup (is_at (name_cmp n)) (items_from s o) ≡ x → is_some (node_shown (node_at s) x) ≡ is_some x
       by None e = refl
       by (Some target.Whiteout) e = refl
       by (Some (target.Inode c)) e = there (p ++ n ∷ []) c (reached n (Some (target.Inode c)) e)
@@ -129,11 +129,11 @@ module _ (s : Slots Inode) (root : ℕ) (there : (q : Names) (c : ℕ) → walk 
       second true b e = e
       second false b e = absurd (cc)
 
-      by : (es : Items) → list_all targets_whiteout (values_of es) ≡ true → IsFree (seen (node_at s) (lookup (is_at (name_cmp n)) es))
+      by : (es : Items) → list_all targets_whiteout (values_of es) ≡ true → IsFree (node_shown (node_at s) (lookup (is_at (name_cmp n)) es))
       by [] a = tt
       by (e ∷ es) a = choose (λ f. by es f) (is_at (name_cmp n) e.0) e.1 a
         where
-          choose : (list_all targets_whiteout (values_of es) ≡ true → IsFree (seen (node_at s) (lookup (is_at (name_cmp n)) es))) → (b : Bool) (t : Target) → (targets_whiteout t && list_all targets_whiteout (values_of es)) ≡ true → IsFree (seen (node_at s) (cond b (Some t) (lookup (is_at (name_cmp n)) es)))
+          choose : (list_all targets_whiteout (values_of es) ≡ true → IsFree (node_shown (node_at s) (lookup (is_at (name_cmp n)) es))) → (b : Bool) (t : Target) → (targets_whiteout t && list_all targets_whiteout (values_of es)) ≡ true → IsFree (node_shown (node_at s) (cond b (Some t) (lookup (is_at (name_cmp n)) es)))
           choose later true target.Whiteout f = refl
           choose later true (target.Inode c) f = absurd (cc)
           choose later false t f = later (second (targets_whiteout t) (list_all targets_whiteout (values_of es)) f)
@@ -153,7 +153,7 @@ module _ (s : Slots Inode) (root : ℕ) (there : (q : Names) (c : ℕ) → walk 
 
       item : (n : List ℕ) (t : Target) → lookup (is_at (name_cmp n)) (items_from s o) ≡ Some t → targets_whiteout t ≡ true
       item n target.Whiteout e = refl
-      item n (target.Inode c) e = absurd (no_inode (get s c) (there (p ++ n ∷ []) c (reached n (Some (target.Inode c)) e)) (subst IsFree (at_name n ∙ ap (seen (node_at s)) e) (clear n)))
+      item n (target.Inode c) e = absurd (no_inode (get s c) (there (p ++ n ∷ []) c (reached n (Some (target.Inode c)) e)) (subst IsFree (at_name n ∙ ap (node_shown (node_at s)) e) (clear n)))
 
       by : (es : Items) → AllByRecursion (λ (e : List ℕ × Target). lookup (is_at (name_cmp e.0)) (items_from s o) ≡ Some e.1) es → list_all targets_whiteout (values_of es) ≡ true
       by [] a = refl

@@ -24,7 +24,7 @@ use Rattle.snap_layer.specs.Edits.{HasParent}
 use Rattle.snap_layer.proofs.Lists.{same_lists, split_key, lookup_below, at_itself}
 use Rattle.std.proofs.lemmas.Bool.{cond-true, cond-false}
 use Rattle.snap_layer.specs.declared.inode.Inode.{Inode}
-use Rattle.snap_layer.specs.Walk.{View, view_of, body_at, stands, IsTable}
+use Rattle.snap_layer.specs.Walk.{SlotView, view_of, body_at, stands, IsTable}
 use Rattle.snap_layer.specs.Holds.{Holds, Holds-prop, Places, place, bodies_of, tree_of, IsFiled, IsKept}
 use Rattle.snap_layer.proofs.Maps.{at_stands, lookup_find}
 
@@ -95,7 +95,7 @@ lookup_bodies f (p ∷ ps) j s = by (f p.1) refl (lookup_bodies f ps j s.1)
 
 -- ---- a table that is a layer
 
-pub record Makes (s : View) (root : ℕ) (places : Places) (next : ℕ) (u : Tree) : Type 0 where
+pub record Makes (s : SlotView) (root : ℕ) (places : Places) (next : ℕ) (u : Tree) : Type 0 where
   pub table : IsTable s root
   pub filed : IsFiled s root places u
   pub shows : (q : Names) → stands s root q ≡ at u q
@@ -137,7 +137,7 @@ either (Ok a) x y f g = f x
 either (Err e) x y f g = g y
 
 -- where the directory of a path is
-pub parent_stands : (s : View) (root : ℕ) (places : Places) (next : ℕ) (u : Tree) (path q : Names) (n : List ℕ) → Makes s root places next u → path ≡ q ++ n ∷ [] → HasParent u path → IsDirAt (stands s root q)
+pub parent_stands : (s : SlotView) (root : ℕ) (places : Places) (next : ℕ) (u : Tree) (path q : Names) (n : List ℕ) → Makes s root places next u → path ≡ q ++ n ∷ [] → HasParent u path → IsDirAt (stands s root q)
 parent_stands s root places next u path q n m splits above = subst IsDirAt (sym (m.shows q)) (above.parent q n splits)
 
 -- ---- the numbers of the bodies are those of the places

@@ -8,7 +8,7 @@ use Rattle.snap_layer.specs.declared.node.Body.{Body}
 use Rattle.snap_layer.specs.Tree.{Tree, at, body, number_at, number_of}
 use Rattle.snap_layer.specs.Layers.{IsLayer}
 use Rattle.snap_layer.specs.Undoing.{with_next}
-use Rattle.snap_layer.specs.Walk.{View}
+use Rattle.snap_layer.specs.Walk.{SlotView}
 use Rattle.snap_layer.specs.Holds.{Places}
 use Rattle.snap_layer.proofs.Lists.{same_lists}
 use Rattle.snap_layer.proofs.Looks.{same_tree, split_number}
@@ -42,7 +42,7 @@ IsLayer-with_next t ok given gone = record {
     below k n lt apart = omega (arith, apart, lt)
 
 -- the table reads as it did
-pub made_with_next : (s : View) (root : ℕ) (places : Places) (next : ℕ) (u : Tree) → Makes s root places next u → Makes s root places (next - 1) (with_next u (u.next - 1))
+pub made_with_next : (s : SlotView) (root : ℕ) (places : Places) (next : ℕ) (u : Tree) → Makes s root places next u → Makes s root places (next - 1) (with_next u (u.next - 1))
 made_with_next s root places next u m = record {
   table = m.table;
   filed = record { placed = m.filed.placed; housed = m.filed.housed; counted = m.filed.counted; sorted = m.filed.sorted };

@@ -15,7 +15,7 @@ use Rattle.snap_layer.proofs.Replacing.{with_node-free}
 use Rattle.snap_layer.proofs.Laws.{Replaces-with_node}
 use Rattle.snap_layer.specs.declared.inode.Target.{Target}
 use Rattle.snap_layer.specs.declared.inode.Target.TheVariants as target
-use Rattle.snap_layer.specs.Walk.{View, walk, seen, IsTable, IsBare, Puts, Links, Same, Adds}
+use Rattle.snap_layer.specs.Walk.{SlotView, walk, node_shown, IsTable, IsBare, Puts, Links, Same, Adds}
 use Rattle.snap_layer.specs.Holds.{Places, place, IsFiled}
 use Rattle.snap_layer.proofs.Frames.{split_ℕ, split_name}
 use Rattle.snap_layer.proofs.Makes.{Makes}
@@ -32,7 +32,7 @@ none_some o e some = no_bool (sym some ∙ ap is_some e)
 
 -- ---- what reads alike
 
-module _ (s t : View) (root : ℕ) (alike : Same s t) where
+module _ (s t : SlotView) (root : ℕ) (alike : Same s t) where
   same_entries : t.entries ≡ s.entries
   same_entries = λ i c m. alike.entries c m i
 
@@ -55,7 +55,7 @@ module _ (s t : View) (root : ℕ) (alike : Same s t) where
       counted = λ k c is. alike.counts c ∙ m.filed.counted k c is;
       sorted = m.filed.sorted;
     };
-    shows = λ q. ap (seen t.nodes) (walk_same q) ∙ ap (λ f. seen f (walk s.entries root q)) same_nodes ∙ m.shows q;
+    shows = λ q. ap (node_shown t.nodes) (walk_same q) ∙ ap (λ f. node_shown f (walk s.entries root q)) same_nodes ∙ m.shows q;
     bodies = λ j. ap (λ (f : ℕ → Option Body). option_and_then f (place ps j)) (λ i c. alike.bodies c i) ∙ m.bodies j;
     last = m.last;
   })
@@ -63,7 +63,7 @@ module _ (s t : View) (root : ℕ) (alike : Same s t) where
 -- ---- an entry put or taken
 
 -- where one entry of one directory changes, each path elsewhere reads as before
-pub puts_out : (s t : View) (root : ℕ) (q : Names) (n : List ℕ) (d : ℕ) (w : Option Target) → IsTable s root → walk s.entries root q ≡ Some (target.Inode d) → IsDirAt (s.nodes d) → Puts s.entries t.entries d n w
+pub puts_out : (s t : SlotView) (root : ℕ) (q : Names) (n : List ℕ) (d : ℕ) (w : Option Target) → IsTable s root → walk s.entries root q ≡ Some (target.Inode d) → IsDirAt (s.nodes d) → Puts s.entries t.entries d n w
     → (x : Names) (m : List ℕ) (c : ℕ) → walk s.entries root x ≡ Some (target.Inode c) → begins (q ++ n ∷ []) (x ++ m ∷ []) ≡ false → t.entries c m ≡ s.entries c m
 puts_out s t root q n d w ok leads dir puts x m c to out = elim (split_ℕ c d) [
   | inr other ↦ puts.dirs c m other
@@ -76,7 +76,7 @@ puts_out s t root q n d w ok leads dir puts x m c to out = elim (split_ℕ c d) 
   ]
 ]
 
-module _ (s t : View) (root : ℕ) (q : Names) (n : List ℕ) (d : ℕ) (ok : IsTable s root) (leads : walk s.entries root q ≡ Some (target.Inode d)) (dir : IsDirAt (s.nodes d)) where
+module _ (s t : SlotView) (root : ℕ) (q : Names) (n : List ℕ) (d : ℕ) (ok : IsTable s root) (leads : walk s.entries root q ≡ Some (target.Inode d)) (dir : IsDirAt (s.nodes d)) where
   -- a new inode without entries
   module _ (k : ℕ) (v : Node) (bd : Option Body) (l : ℕ) (adds : Adds s t d n k v bd l) where
     pub not_new : (c : ℕ) → IsSome (s.nodes c) → c ≡ k → ⊥
@@ -115,13 +115,13 @@ module _ (s t : View) (root : ℕ) (q : Names) (n : List ℕ) (d : ℕ) (ok : Is
 
 -- ---- the files stay
 
-module _ (s t : View) (root : ℕ) (q : Names) (n : List ℕ) (d : ℕ) (w : Option Target) (b : Beside s t root q n d w) (ps : Places) (u v : Tree) (old : IsFiled s root ps u)
+module _ (s t : SlotView) (root : ℕ) (q : Names) (n : List ℕ) (d : ℕ) (w : Option Target) (b : Beside s t root q n d w) (ps : Places) (u v : Tree) (old : IsFiled s root ps u)
     (stay : (j c : ℕ) → place ps j ≡ Some c → (t.nodes c ≡ s.nodes c) × (t.bodies c ≡ s.bodies c) × (t.counts c ≡ s.counts c)) where
-  pub filed_keep : ((j : ℕ) → name_count j v.entries ≡ name_count j u.entries) → option_and_then number_of (seen t.nodes w) ≡ None → IsFiled t root ps v
+  pub filed_keep : ((j : ℕ) → name_count j v.entries ≡ name_count j u.entries) → option_and_then number_of (node_shown t.nodes w) ≡ None → IsFiled t root ps v
   filed_keep names plain = record {
     placed = λ x c k to number. by_walk s t root q n d w b x c to
         (λ out was. old.placed x c k was (ap (option_and_then number_of) (sym (b.nodes x c was out)) ∙ number))
-        (λ is new. absurd (no_some k (sym plain ∙ ap (λ o. option_and_then number_of (seen t.nodes o)) new ∙ number)));
+        (λ is new. absurd (no_some k (sym plain ∙ ap (λ o. option_and_then number_of (node_shown t.nodes o)) new ∙ number)));
     housed = λ k c is. let leaf = old.housed k c is in let same = stay k c is in (leaf.0, same.1 ∙ leaf.1, same.0 ∙ leaf.2);
     counted = λ k c is. (stay k c is).2 ∙ old.counted k c is ∙ sym (names k);
     sorted = old.sorted;
@@ -173,11 +173,11 @@ module _ (u : Tree) (layer : IsLayer u) (p : Names) (v : Node) (free : IsFree (a
   plain_names plain k = omega (arith, entry_names k, ap one_if (plain_has_none k v plain))
 
 -- a place has an inode
-pub housed_some : (s : View) (root : ℕ) (ps : Places) (u : Tree) → IsFiled s root ps u → (j c : ℕ) → place ps j ≡ Some c → IsSome (s.nodes c)
+pub housed_some : (s : SlotView) (root : ℕ) (ps : Places) (u : Tree) → IsFiled s root ps u → (j c : ℕ) → place ps j ≡ Some c → IsSome (s.nodes c)
 housed_some s root ps u filed j c is = ap is_some (filed.housed j c is).2
 
 -- a directory put
-pub dir_makes : (s t : View) (root : ℕ) (ps : Places) (next : ℕ) (u : Tree) → Makes s root ps next u → IsLayer u → (q : Names) (n : List ℕ) (d : ℕ) → walk s.entries root q ≡ Some (target.Inode d) → IsDirAt (s.nodes d) → IsFree (at u (q ++ n ∷ []))
+pub dir_makes : (s t : SlotView) (root : ℕ) (ps : Places) (next : ℕ) (u : Tree) → Makes s root ps next u → IsLayer u → (q : Names) (n : List ℕ) (d : ℕ) → walk s.entries root q ≡ Some (target.Inode d) → IsDirAt (s.nodes d) → IsFree (at u (q ++ n ∷ []))
     → (k : ℕ) (v : Node) (bd : Option Body) (l : ℕ) → Adds s t d n k v bd l → number_of v ≡ None → Makes t root ps next (with_entry u (q ++ n ∷ []) v)
 dir_makes s t root ps next u m layer q n d leads dir free k v bd l adds plain =
     let b = adds_beside s t root q n d m.table leads dir k v bd l adds in
@@ -194,7 +194,7 @@ dir_makes s t root ps next u m layer q n d leads dir free k v bd l adds plain =
     }
 
 -- a whiteout put
-pub white_makes : (s t : View) (root : ℕ) (ps : Places) (next : ℕ) (u : Tree) → Makes s root ps next u → IsLayer u → (q : Names) (n : List ℕ) (d : ℕ) → walk s.entries root q ≡ Some (target.Inode d) → IsDirAt (s.nodes d) → IsFree (at u (q ++ n ∷ []))
+pub white_makes : (s t : SlotView) (root : ℕ) (ps : Places) (next : ℕ) (u : Tree) → Makes s root ps next u → IsLayer u → (q : Names) (n : List ℕ) (d : ℕ) → walk s.entries root q ≡ Some (target.Inode d) → IsDirAt (s.nodes d) → IsFree (at u (q ++ n ∷ []))
     → Links s t d n (Some target.Whiteout) → Makes t root ps next (with_entry u (q ++ n ∷ []) node.Whiteout)
 white_makes s t root ps next u m layer q n d leads dir free links =
     let b = links_beside s t root q n d m.table leads dir (Some target.Whiteout) (λ c e. cc) links in
@@ -210,18 +210,18 @@ white_makes s t root ps next u m layer q n d leads dir free links =
 -- ---- an edit's place
 
 -- the path's last name lies in the directory with the key
-pub record Spot (s : View) (root : ℕ) (ps : Places) (next : ℕ) (u : Tree) (path q : Names) (n : List ℕ) (d : ℕ) : Type 0 where
+pub record Spot (s : SlotView) (root : ℕ) (ps : Places) (next : ℕ) (u : Tree) (path q : Names) (n : List ℕ) (d : ℕ) : Type 0 where
   pub makes : Makes s root ps next u
   pub layer : IsLayer u
   pub splits : path ≡ q ++ n ∷ []
   pub leads : walk s.entries root q ≡ Some (target.Inode d)
   pub dir : IsDirAt (s.nodes d)
 
-pub dir_made : (s t : View) (root : ℕ) (ps : Places) (next : ℕ) (u : Tree) (path q : Names) (n : List ℕ) (d : ℕ) → Spot s root ps next u path q n d → IsFree (at u path)
+pub dir_made : (s t : SlotView) (root : ℕ) (ps : Places) (next : ℕ) (u : Tree) (path q : Names) (n : List ℕ) (d : ℕ) → Spot s root ps next u path q n d → IsFree (at u path)
     → (k : ℕ) (v : Node) (bd : Option Body) (l : ℕ) → Adds s t d n k v bd l → number_of v ≡ None → Makes t root ps next (with_entry u path v)
 dir_made s t root ps next u path q n d spot free k v bd l adds plain =
     subst (λ (p : Names). Makes t root ps next (with_entry u p v)) (sym spot.splits) (dir_makes s t root ps next u spot.makes spot.layer q n d spot.leads spot.dir (subst (λ (p : Names). IsFree (at u p)) spot.splits free) k v bd l adds plain)
 
-pub white_made : (s t : View) (root : ℕ) (ps : Places) (next : ℕ) (u : Tree) (path q : Names) (n : List ℕ) (d : ℕ) → Spot s root ps next u path q n d → IsFree (at u path) → Links s t d n (Some target.Whiteout) → Makes t root ps next (with_entry u path node.Whiteout)
+pub white_made : (s t : SlotView) (root : ℕ) (ps : Places) (next : ℕ) (u : Tree) (path q : Names) (n : List ℕ) (d : ℕ) → Spot s root ps next u path q n d → IsFree (at u path) → Links s t d n (Some target.Whiteout) → Makes t root ps next (with_entry u path node.Whiteout)
 white_made s t root ps next u path q n d spot free links =
     subst (λ (p : Names). Makes t root ps next (with_entry u p node.Whiteout)) (sym spot.splits) (white_makes s t root ps next u spot.makes spot.layer q n d spot.leads spot.dir (subst (λ (p : Names). IsFree (at u p)) spot.splits free) links)

@@ -14,7 +14,7 @@ use Rattle.snap_layer.specs.declared.inode.Inode.{Inode}
 use Rattle.snap_layer.specs.declared.inode.Inode.TheVariants as inode
 use Rattle.snap_layer.specs.declared.inode.Target.{Target}
 use Rattle.snap_layer.specs.declared.inode.Target.TheVariants as target
-use Rattle.snap_layer.specs.Walk.{follow, walk, entry_of, entry_at, node_of, node_at, seen, stands, view_of}
+use Rattle.snap_layer.specs.Walk.{follow, walk, entry_of, entry_at, node_of, node_at, node_shown, stands, view_of}
 use Rattle.snap_layer.specs.Holds.{Places}
 use Rattle.snap_layer.proofs.Makes.{Makes}
 
@@ -34,7 +34,7 @@ module _ (s : Slots Inode) (root most m first : ℕ) (es : BTreeMap (List ℕ) T
 
   shows : (q : Names) → stands (view_of s) root q ≡ at (root_within most m first) q
   shows [] = ap node_of is
-  shows (n ∷ ns) = ap (seen (node_at s)) (walk_none n ns)
+  shows (n ∷ ns) = ap (node_shown (node_at s)) (walk_none n ns)
 
   sorted_none : IsStrictlySortedBy nat_cmp []
   unfolding IsStrictlySortedBy

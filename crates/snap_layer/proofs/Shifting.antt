@@ -9,12 +9,12 @@ use Rattle.snap_layer.proofs.Paths.{split_front, append-cancel, begins_from, beg
 use Rattle.snap_layer.proofs.Moves.{not_longer, not_of_root, not_of_parent, apart_below, at-with_moved_below, at-with_moved_from, at-with_moved_gone, at-with_moved_else}
 use Rattle.snap_layer.specs.declared.inode.Target.{Target}
 use Rattle.snap_layer.specs.declared.inode.Target.TheVariants as target
-use Rattle.snap_layer.specs.Walk.{View, walk, seen, stands, IsTable, IsOpen, left_at, Shifted}
+use Rattle.snap_layer.specs.Walk.{SlotView, walk, node_shown, stands, IsTable, IsOpen, left_at, Shifted}
 use Rattle.snap_layer.proofs.Frames.{walk_agree, walk_push, walk_past, walk-append, open_bare}
 use Rattle.snap_layer.proofs.Beside.{front_out, seen_agree}
 
 -- t has at `to` what s had at `from`, at `from` what is left, and elsewhere reads as s along each path
-pub record Shifts (s t : View) (root : ℕ) (qf : Names) (nf : List ℕ) (df : ℕ) (qt : Names) (nt : List ℕ) (dt : ℕ) (leaves : Bool) : Type 0 where
+pub record Shifts (s t : SlotView) (root : ℕ) (qf : Names) (nf : List ℕ) (df : ℕ) (qt : Names) (nt : List ℕ) (dt : ℕ) (leaves : Bool) : Type 0 where
   pub leads_from : walk s.entries root qf ≡ Some (target.Inode df)
   pub leads_to : walk s.entries root qt ≡ Some (target.Inode dt)
   pub entries : (x : Names) (m : List ℕ) (c : ℕ) → walk s.entries root x ≡ Some (target.Inode c) → begins (qf ++ nf ∷ []) (x ++ m ∷ []) ≡ false → begins (qt ++ nt ∷ []) (x ++ m ∷ []) ≡ false → t.entries c m ≡ s.entries c m
@@ -23,7 +23,7 @@ pub record Shifts (s t : View) (root : ℕ) (qf : Names) (nf : List ℕ) (df : �
   pub at_from : t.entries df nf ≡ left_at leaves
   pub nodes : (x : Names) (c : ℕ) → walk s.entries root x ≡ Some (target.Inode c) → begins (qt ++ nt ∷ []) x ≡ false → t.nodes c ≡ s.nodes c
 
-module _ (s t : View) (root : ℕ) (qf : Names) (nf : List ℕ) (df : ℕ) (qt : Names) (nt : List ℕ) (dt : ℕ) (leaves : Bool) (sh : Shifts s t root qf nf df qt nt dt leaves)
+module _ (s t : SlotView) (root : ℕ) (qf : Names) (nf : List ℕ) (df : ℕ) (qt : Names) (nt : List ℕ) (dt : ℕ) (leaves : Bool) (sh : Shifts s t root qf nf df qt nt dt leaves)
     (not_inside : begins (qf ++ nf ∷ []) (qt ++ nt ∷ []) ≡ false) (not_around : begins (qt ++ nt ∷ []) (qf ++ nf ∷ []) ≡ false) where
   abbrev from : Names
   from = qf ++ nf ∷ []
@@ -74,7 +74,7 @@ module _ (s t : View) (root : ℕ) (qf : Names) (nf : List ℕ) (df : ℕ) (qt :
       open_left true = tt
       open_left false = tt
 
-  seen_left : (b : Bool) → seen t.nodes (left_at b) ≡ (if b then Some node.Whiteout else None)
+  seen_left : (b : Bool) → node_shown t.nodes (left_at b) ≡ (if b then Some node.Whiteout else None)
   seen_left true = refl
   seen_left false = refl
 
@@ -92,10 +92,10 @@ module _ (s t : View) (root : ℕ) (qf : Names) (nf : List ℕ) (df : ℕ) (qt :
   -- the list of the definition is what stands at the paths
   pub shows : (u : Tree) → ((x : Names) → stands s root x ≡ at u x) → (x : Names) → stands t root x ≡ at (with_moved u from to leaves) x
   shows u was x = by_place x
-      (λ r is. ap (stands t root) is ∙ ap (seen t.nodes) (walk_moved r) ∙ seen_agree t.nodes s.nodes (walk s.entries root (from ++ r)) (λ c leads. sh.nodes (from ++ r) c leads (apart_below to from r not_around not_inside)) ∙ was (from ++ r) ∙ sym (at-with_moved_below u from to not_inside not_around leaves r) ∙ ap (at (with_moved u from to leaves)) (sym is))
-      (λ is. ap (stands t root) is ∙ ap (seen t.nodes) walk_from ∙ seen_left leaves ∙ sym (at-with_moved_from u from to not_inside not_around leaves) ∙ ap (at (with_moved u from to leaves)) (sym is))
-      (λ m r is. ap (stands t root) is ∙ ap (seen t.nodes) (walk_gone m r) ∙ sym (at-with_moved_gone u from to not_inside not_around leaves m r) ∙ ap (at (with_moved u from to leaves)) (sym is))
-      (λ stays not_to. ap (seen t.nodes) (walk_else x stays not_to) ∙ seen_agree t.nodes s.nodes (walk s.entries root x) (λ c leads. sh.nodes x c leads not_to) ∙ was x ∙ sym (at-with_moved_else u from to not_inside not_around leaves x stays not_to))
+      (λ r is. ap (stands t root) is ∙ ap (node_shown t.nodes) (walk_moved r) ∙ seen_agree t.nodes s.nodes (walk s.entries root (from ++ r)) (λ c leads. sh.nodes (from ++ r) c leads (apart_below to from r not_around not_inside)) ∙ was (from ++ r) ∙ sym (at-with_moved_below u from to not_inside not_around leaves r) ∙ ap (at (with_moved u from to leaves)) (sym is))
+      (λ is. ap (stands t root) is ∙ ap (node_shown t.nodes) walk_from ∙ seen_left leaves ∙ sym (at-with_moved_from u from to not_inside not_around leaves) ∙ ap (at (with_moved u from to leaves)) (sym is))
+      (λ m r is. ap (stands t root) is ∙ ap (node_shown t.nodes) (walk_gone m r) ∙ sym (at-with_moved_gone u from to not_inside not_around leaves m r) ∙ ap (at (with_moved u from to leaves)) (sym is))
+      (λ stays not_to. ap (node_shown t.nodes) (walk_else x stays not_to) ∙ seen_agree t.nodes s.nodes (walk s.entries root x) (λ c leads. sh.nodes x c leads not_to) ∙ was x ∙ sym (at-with_moved_else u from to not_inside not_around leaves x stays not_to))
 
   -- where a walk leads now, it led from another path
   pub came : (x : Names) (c : ℕ) → walk t.entries root x ≡ Some (target.Inode c) → (y : Names) × (walk s.entries root y ≡ Some (target.Inode c)) × (begins to y ≡ false) × (((r : Names) × (x ≡ to ++ r) × (y ≡ from ++ r)) ⊎ ((x ≡ y) × (begins from y ≡ false)))
@@ -133,7 +133,7 @@ module _ (s t : View) (root : ℕ) (qf : Names) (nf : List ℕ) (df : ℕ) (qt :
       no e = cc
 
 -- what the code does moves the subtree
-pub shifts : (s t : View) (root : ℕ) (qf : Names) (nf : List ℕ) (df : ℕ) (qt : Names) (nt : List ℕ) (dt : ℕ) (leaves : Bool) → IsTable s root
+pub shifts : (s t : SlotView) (root : ℕ) (qf : Names) (nf : List ℕ) (df : ℕ) (qt : Names) (nt : List ℕ) (dt : ℕ) (leaves : Bool) → IsTable s root
     → walk s.entries root qf ≡ Some (target.Inode df) → walk s.entries root qt ≡ Some (target.Inode dt) → IsDirAt (s.nodes df) → IsDirAt (s.nodes dt)
     → begins (qf ++ nf ∷ []) (qt ++ nt ∷ []) ≡ false → Shifted s t df nf dt nt leaves → Shifts s t root qf nf df qt nt dt leaves
 shifts s t root qf nf df qt nt dt leaves ok to_f to_t dir_f dir_t not_inside sh = record {

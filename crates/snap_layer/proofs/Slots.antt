@@ -18,7 +18,7 @@ use Rattle.snap_layer.specs.declared.inode.Inode.TheVariants as inode
 use Rattle.snap_layer.specs.declared.inode.Inode.{Inode}
 use Rattle.snap_layer.specs.declared.inode.Target.{Target}
 use Rattle.snap_layer.specs.Tree.{leaf_node}
-use Rattle.snap_layer.specs.Walk.{entry_of, node_of, body_of, count_of, node_at, View, Table, view_of, left_at, Puts, Links, Shifted, Same, Rebodies}
+use Rattle.snap_layer.specs.Walk.{entry_of, node_of, body_of, links_of, node_at, SlotView, Table, view_of, left_at, Puts, Links, Shifted, Same, Rebodies}
 use Rattle.snap_layer.proofs.Frames.{split_ℕ}
 
 pub on_ok : {A E P Q : Type 0} (r : Result A E) → (P → Q) → OnOk r P → OnOk r Q
@@ -51,7 +51,7 @@ reads f s d old new is same c =
 
 pub links : (s : Slots Inode) (d : ℕ) (n : List ℕ) (w : Option Target) (old new : Inode) → get s d ≡ Some old
     → ((m : List ℕ) → entry_of (Some new) m ≡ cond (is_at (slice_cmp nat_cmp n) m) w (entry_of (Some old) m))
-    → node_of (Some new) ≡ node_of (Some old) → body_of (Some new) ≡ body_of (Some old) → count_of (Some new) ≡ count_of (Some old) → Links (view_of s) (view_of (with_value s d new)) d n w
+    → node_of (Some new) ≡ node_of (Some old) → body_of (Some new) ≡ body_of (Some old) → links_of (Some new) ≡ links_of (Some old) → Links (view_of s) (view_of (with_value s d new)) d n w
 links s d n w old new is put node body count =
     let up = Updates-with_value s d new (some_is _ old is) in
     record {
@@ -62,7 +62,7 @@ links s d n w old new is put node body count =
       };
       nodes = reads node_of s d old new is node;
       bodies = reads body_of s d old new is body;
-      counts = reads count_of s d old new is count;
+      counts = reads links_of s d old new is count;
     }
   where
     split : (m : List ℕ) → ((n ≡ m) × (is_at (slice_cmp nat_cmp n) m ≡ true)) ⊎ ((m ≡ n → ⊥) × (is_at (slice_cmp nat_cmp n) m ≡ false))
@@ -76,22 +76,22 @@ links s d n w old new is put node body count =
 
 pub same : (s : Slots Inode) (d : ℕ) (old new : Inode) → get s d ≡ Some old
     → ((m : List ℕ) → entry_of (Some new) m ≡ entry_of (Some old) m)
-    → node_of (Some new) ≡ node_of (Some old) → body_of (Some new) ≡ body_of (Some old) → count_of (Some new) ≡ count_of (Some old) → Same (view_of s) (view_of (with_value s d new))
+    → node_of (Some new) ≡ node_of (Some old) → body_of (Some new) ≡ body_of (Some old) → links_of (Some new) ≡ links_of (Some old) → Same (view_of s) (view_of (with_value s d new))
 same s d old new is entries node body count = record {
   entries = λ c m. reads (λ o. entry_of o m) s d old new is (entries m) c;
   nodes = reads node_of s d old new is node;
   bodies = reads body_of s d old new is body;
-  counts = reads count_of s d old new is count;
+  counts = reads links_of s d old new is count;
 }
 
-pub same_trans : (s t u : View) → Same s t → Same t u → Same s u
+pub same_trans : (s t u : SlotView) → Same s t → Same t u → Same s u
 same_trans s t u a b = record { entries = λ c m. b.entries c m ∙ a.entries c m; nodes = λ c. b.nodes c ∙ a.nodes c; bodies = λ c. b.bodies c ∙ a.bodies c; counts = λ c. b.counts c ∙ a.counts c }
 
 -- room made changes nothing that is read
 pub reserved : (s t : Slots Inode) → t ≡ record s { capacity = t.capacity } → Same (view_of s) (view_of t)
 reserved s t e =
     let g : (c : ℕ) → get t c ≡ get s c = λ c. ap (λ (x : Slots Inode). get x c) e in
-    record { entries = λ c m. ap (λ o. entry_of o m) (g c); nodes = λ c. ap node_of (g c); bodies = λ c. ap body_of (g c); counts = λ c. ap count_of (g c) }
+    record { entries = λ c m. ap (λ o. entry_of o m) (g c); nodes = λ c. ap node_of (g c); bodies = λ c. ap body_of (g c); counts = λ c. ap links_of (g c) }
 
 -- an empty directory has no names
 pub no_names : (es : BTreeMap (List ℕ) Target) → es.entries ≡ [] → (m : ℕ) (o : Bool) (n : List ℕ) → entry_of (Some (inode.Dir m o es)) n ≡ None
@@ -100,7 +100,7 @@ no_names es empty m o n = ap (lookup (is_at (slice_cmp nat_cmp n))) empty
 -- the body set
 pub rebodies : (s : Slots Inode) (d : ℕ) (b : Body) (old new : Inode) → get s d ≡ Some old
     → ((m : List ℕ) → entry_of (Some new) m ≡ entry_of (Some old) m)
-    → node_of (Some new) ≡ node_of (Some old) → body_of (Some new) ≡ Some b → count_of (Some new) ≡ count_of (Some old) → Rebodies (view_of s) (view_of (with_value s d new)) d b
+    → node_of (Some new) ≡ node_of (Some old) → body_of (Some new) ≡ Some b → links_of (Some new) ≡ links_of (Some old) → Rebodies (view_of s) (view_of (with_value s d new)) d b
 rebodies s d b old new is entries node body count =
     let up = Updates-with_value s d new (some_is _ old is) in
     record {
@@ -108,7 +108,7 @@ rebodies s d b old new is entries node body count =
       nodes = reads node_of s d old new is node;
       body = ap body_of up.changed ∙ body;
       bodies = λ c apart. ap body_of (up.others c apart);
-      counts = reads count_of s d old new is count;
+      counts = reads links_of s d old new is count;
     }
 
 -- an inode is no whiteout
@@ -134,7 +134,7 @@ puts_other e f d n w c m apart puts = elim (split_ℕ c d) [
 ]
 
 -- an entry put at one place, and at the other what is left
-pub shifted : (s m t : View) (from : ℕ) (old : List ℕ) (to : ℕ) (new : List ℕ) (w : Option Target) (leaves : Bool) → s.entries from old ≡ w → (from ≡ to → old ≡ new → ⊥) → Links s m to new w → Links m t from old (left_at leaves) → Shifted s t from old to new leaves
+pub shifted : (s m t : SlotView) (from : ℕ) (old : List ℕ) (to : ℕ) (new : List ℕ) (w : Option Target) (leaves : Bool) → s.entries from old ≡ w → (from ≡ to → old ≡ new → ⊥) → Links s m to new w → Links m t from old (left_at leaves) → Shifted s t from old to new leaves
 shifted s m t from old to new w leaves there apart one two = record {
   to = puts_other m.entries t.entries from old (left_at leaves) to new (λ e f. apart (sym e) (sym f)) two.entries ∙ one.entries.here ∙ sym there;
   from = two.entries.here;

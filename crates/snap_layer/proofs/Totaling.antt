@@ -17,7 +17,7 @@ use Rattle.snap_layer.specs.declared.node.Body.{Body}
 use Rattle.snap_layer.specs.declared.node.Body.TheVariants as body_kinds
 use Rattle.snap_layer.specs.declared.totals.Totals.{Totals}
 use Rattle.snap_layer.specs.Tree.{Tree, Entries, path_cmp, at, body, number_of, number_at, has_number, is_dir, is_whiteout, IsDirAt, leaf_node}
-use Rattle.snap_layer.specs.Counts.{dir_count, whiteout_count, inode_count, block_count, name_count, body_blocks, most_inodes}
+use Rattle.snap_layer.specs.Counts.{dir_count, whiteout_count, inode_count, block_count, name_count, body_blocks, most_file_blocks, most_inodes}
 use Rattle.snap_layer.specs.Layers.{IsLayer}
 use Rattle.snap_layer.specs.Edits.{with_entry, with_body, with_node, with_moved, without, outside, inside, HasPlace}
 use Rattle.snap_layer.specs.Totals.{path_count, Counts, IsClear}
@@ -163,7 +163,7 @@ counts_body t ok k old new v w is had inodes paths blocks = record {
 
 -- ---- bounds
 
-pub few_blocks : (t : Tree) → IsLayer t → block_count t ≤ most_inodes + most_inodes * 268435456
+pub few_blocks : (t : Tree) → IsLayer t → block_count t ≤ most_inodes + most_inodes * most_file_blocks
 few_blocks t ok = omega (arith, ok.few, ok.most.1, blocks_of_bodies t ok)
 
 pub fewer_blocks : (t : Tree) (p : Names) → block_count (without t p) ≤ block_count t

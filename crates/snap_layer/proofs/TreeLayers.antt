@@ -153,13 +153,13 @@ same_refusal : (m : NoMemory) → m ≡ no_memory
 same_refusal m = refl
 
 -- a directory gives its inode to a whiteout: that is never refused
-pub covered_done : (t : Tree) → IsLayer t → (p : Names) → IsDirAt (at t p) → (v : Tree) (r : Result (Unit {0}) LayerError) → OnOk r (v ≡ with_node t p Whiteout)
-    → (IsErrOf r LayerFull ↔ (is_within (with_node t p Whiteout) ≡ false)) → (IsErrOf r (OutOfMemory no_memory) → at t p ≡ None) → v ≡ with_node t p Whiteout
-covered_done t ok p dir v (Ok x) done full sure = done
-covered_done t ok p dir v (Err LayerFull) done full sure =
+pub covered_done : (t : Tree) → IsLayer t → (p : Names) → IsDirAt (at t p) → {A : Type 0} (r : Result (Unit {0}) LayerError) → OnOk r A
+    → (IsErrOf r LayerFull ↔ (is_within (with_node t p Whiteout) ≡ false)) → (IsErrOf r (OutOfMemory no_memory) → at t p ≡ None) → A
+covered_done t ok p dir (Ok x) done full sure = done
+covered_done t ok p dir (Err LayerFull) done full sure =
     let few : inode_count (with_node t p Whiteout) ≤ t.most = omega (arith, inode_count-with_node t p Whiteout ok, inode_count-without t p (has_body t ok p), dir_inside t p dir, ok.few) in
     absurd (no_bool (sym (is_within_yes (with_node t p Whiteout) few ok.next.1) ∙ full.0 refl))
-covered_done t ok p dir v (Err (OutOfMemory m)) done full sure =
+covered_done t ok p dir (Err (OutOfMemory m)) done full sure =
     absurd (by (at t p) dir (sure (ap (λ (n : NoMemory). Err (OutOfMemory n)) (same_refusal m))))
   where
     by : (o : Option Node) → IsDirAt o → o ≡ None → ⊥

@@ -24,9 +24,9 @@ use Rattle.snap_layer.specs.declared.inode.Inode.{Inode}
 use Rattle.snap_layer.specs.declared.inode.Inode.TheVariants.{Dir, Leaf}
 use Rattle.snap_layer.specs.declared.inode.Target.{Target}
 use Rattle.snap_layer.specs.declared.inode.Target.TheVariants as target
-use Rattle.snap_layer.specs.Walk.{Table, follow, walk, entry_of, entry_at, node_at, seen, stands, view_of}
+use Rattle.snap_layer.specs.Walk.{Table, follow, walk, entry_of, entry_at, node_at, node_shown, stands, view_of}
 use Rattle.snap_layer.specs.Holds.{Holds, Holds-prop}
-use Rattle.snap_layer.specs.Rows.{name_cmp, Items, items_of, items_at, items_in, items_from, placed, Frames, last_path, frames_text, ahead, spread, entered, entered_from, IsWay, Passes, IsWalk, IsListed, own}
+use Rattle.snap_layer.specs.Rows.{name_cmp, Items, items_of, items_at, items_in, items_from, placed, Frames, last_path, frames_text, ahead, spread, frame_of, entered_from, IsWay, Passes, IsWalk, IsListed, own}
 use Rattle.snap_layer.proofs.Frames.{walk_push}
 use Rattle.snap_layer.proofs.Maps.{lookup_find}
 use Rattle.snap_layer.proofs.Inside.{is_under, inside_is, found_each}
@@ -70,21 +70,21 @@ walk_on e d (n ∷ q) t r to = by (e d n) (λ c is. walk_on e c q t r is) q to
 
 -- below a target stands what one of its items leads to
 pub under_item : (s : Slots Inode) (root : ℕ) (q : Names) (t : Target) (n : List ℕ) (r : Names) → walk (entry_at s) root q ≡ Some t → IsSome (stands (view_of s) root (q ++ n ∷ r)) → IsSome (lookup (is_at (name_cmp n)) (items_in s t))
-under_item s root q target.Whiteout n r leads some = absurd (none (ap (seen (node_at s)) (walk_on (entry_at s) root q target.Whiteout (n ∷ r) leads)) some)
+under_item s root q target.Whiteout n r leads some = absurd (none (ap (node_shown (node_at s)) (walk_on (entry_at s) root q target.Whiteout (n ∷ r) leads)) some)
   where
     none : {o : Option Node} → o ≡ None → IsSome o → ⊥
     none e f = cc
 under_item s root q (target.Inode c) n r leads some =
     subst IsSome (sym (items_entry (get s c) n)) (by (entry_at s c n) refl)
   where
-    on : stands (view_of s) root (q ++ n ∷ r) ≡ seen (node_at s) (follow (entry_at s c n) (λ d. walk (entry_at s) d r) r)
-    on = ap (seen (node_at s)) (walk_on (entry_at s) root q (target.Inode c) (n ∷ r) leads)
+    on : stands (view_of s) root (q ++ n ∷ r) ≡ node_shown (node_at s) (follow (entry_at s c n) (λ d. walk (entry_at s) d r) r)
+    on = ap (node_shown (node_at s)) (walk_on (entry_at s) root q (target.Inode c) (n ∷ r) leads)
 
     none : {o : Option Node} → o ≡ None → IsSome o → ⊥
     none e f = cc
 
     by : (o : Option Target) → entry_at s c n ≡ o → IsSome o
-    by None e = absurd (none (on ∙ ap (λ o. seen (node_at s) (follow o (λ d. walk (entry_at s) d r) r)) e) some)
+    by None e = absurd (none (on ∙ ap (λ o. node_shown (node_at s) (follow o (λ d. walk (entry_at s) d r) r)) e) some)
     by (Some x) e = refl
 
 -- ---- the step
@@ -104,10 +104,10 @@ all_append P (x ∷ xs) ys a b = (a.0, all_append P xs ys a.1 b)
 
 -- what stands at a path and below it, by the items of its target
 pub inside_target : (s : Slots Inode) (root : ℕ) (es : Entries) → ((q : Names) → stands (view_of s) root q ≡ lookup (is_at (path_cmp q)) es) → IsStrictlySortedBy path_cmp (keys_of es)
-    → (q : Names) (t : Target) (v : Node) → walk (entry_at s) root q ≡ Some t → seen (node_at s) (Some t) ≡ Some v → IsStrictlySortedBy name_cmp (keys_of (items_in s t)) → inside q es ≡ (q, v) ∷ spread es (placed q (items_in s t))
+    → (q : Names) (t : Target) (v : Node) → walk (entry_at s) root q ≡ Some t → node_shown (node_at s) (Some t) ≡ Some v → IsStrictlySortedBy name_cmp (keys_of (items_in s t)) → inside q es ≡ (q, v) ∷ spread es (placed q (items_in s t))
 inside_target s root es shows sorted q t v leads node order =
     inside_is es sorted q (items_in s t) v order
-    (sym (shows q) ∙ ap (seen (node_at s)) leads ∙ node)
+    (sym (shows q) ∙ ap (node_shown (node_at s)) leads ∙ node)
     (λ n r some. under_found q n r (items_in s t) (under_item s root q t n r leads (subst IsSome (sym (shows (q ++ n ∷ r))) some)))
     ∙ ap (λ l. (q, v) ∷ l) (sym (flat_map-map (λ (u : Names × Target). inside u.0 es) (λ (e : List ℕ × Target). (q ++ e.0 ∷ [], e.1)) (items_in s t)))
 
@@ -116,15 +116,15 @@ module _ (s : Slots Inode) (root : ℕ) (es : Entries) (p : Names) (fs gs : Fram
   arrived = subst (AllByRecursion (λ (u : Names × Target). walk (entry_at s) root u.0 ≡ Some u.1)) goes walks.leads
 
   -- something stands there
-  pub step_there : (o : Option Node) → o ≡ seen (node_at s) (Some t) → IsSome o
+  pub step_there : (o : Option Node) → o ≡ node_shown (node_at s) (Some t) → IsSome o
   step_there o is = subst IsSome (sym is) (by t arrived.0)
     where
-      by : (x : Target) → walk (entry_at s) root (last_path p gs) ≡ Some x → IsSome (seen (node_at s) (Some x))
+      by : (x : Target) → walk (entry_at s) root (last_path p gs) ≡ Some x → IsSome (node_shown (node_at s) (Some x))
       by target.Whiteout leads = refl
       by (target.Inode c) leads = walks.there (last_path p gs) c leads
 
   step_path_is : IsPath (last_path p gs)
-  step_path_is = walks.paths (last_path p gs) (subst IsSome (walks.shows (last_path p gs)) (subst (λ o. IsSome (seen (node_at s) o)) (sym arrived.0) (step_there _ refl)))
+  step_path_is = walks.paths (last_path p gs) (subst IsSome (walks.shows (last_path p gs)) (subst (λ o. IsSome (node_shown (node_at s) o)) (sym arrived.0) (step_there _ refl)))
 
   -- one more frame has room
   pub step_room : length gs < 2048
@@ -147,7 +147,7 @@ module _ (s : Slots Inode) (root : ℕ) (es : Entries) (p : Names) (fs gs : Fram
     paths = walks.paths;
   }
 
-  module _ (hs : Frames) (enters : hs ≡ gs ++ entered t) (v : Node) (node : Some v ≡ seen (node_at s) (Some t)) (order : IsStrictlySortedBy name_cmp (keys_of (items_in s t))) where
+  module _ (hs : Frames) (enters : hs ≡ gs ++ frame_of t) (v : Node) (node : Some v ≡ node_shown (node_at s) (Some t)) (order : IsStrictlySortedBy name_cmp (keys_of (items_in s t))) where
     path_kept : last_path p hs ≡ last_path p gs
     path_kept = ap (last_path p) enters ∙ last_path_entered p gs t
 
@@ -215,7 +215,7 @@ module _ (s : Slots Inode) (root : ℕ) (h : Holds s root) (listed : IsListed s 
     where
       by : (q : Names) (b : Bool) → begins p q ≡ b → cond b (lookup (is_at (path_cmp q)) (map.entries h.0)) None ≡ None
       by q true is =
-          sym (all_shown q) ∙ ap (λ (x : Names). stands (view_of s) root x) (begins_rest p q is) ∙ ap (seen (node_at s)) (walk_off (entry_at s) root p (drop (length p) q) off)
+          sym (all_shown q) ∙ ap (λ (x : Names). stands (view_of s) root x) (begins_rest p q is) ∙ ap (node_shown (node_at s)) (walk_off (entry_at s) root p (drop (length p) q) off)
       by q false is = refl
 
   module _ (o : Option Target) (is : walk (entry_at s) root p ≡ o) (order : IsStrictlySortedBy name_cmp (keys_of (items_from s o))) where
@@ -258,16 +258,16 @@ module _ (s : Slots Inode) (root : ℕ) (h : Holds s root) (listed : IsListed s 
         no_node : (x : Option Node) → x ≡ None → IsSome x → ⊥
         no_node x f there = cc
 
-        node : (t : Target) → walk (entry_at s) root p ≡ Some t → (x : Option Node) → seen (node_at s) (Some t) ≡ x → IsSome x
+        node : (t : Target) → walk (entry_at s) root p ≡ Some t → (x : Option Node) → node_shown (node_at s) (Some t) ≡ x → IsSome x
         node target.Whiteout e x f = subst IsSome f refl
         node (target.Inode c) e x f = subst IsSome f (listed.there p c e)
 
-        some : (t : Target) → walk (entry_at s) root p ≡ Some t → IsStrictlySortedBy name_cmp (keys_of (items_in s t)) → (x : Option Node) → seen (node_at s) (Some t) ≡ x → inside p (map.entries h.0) ≡ own p x ++ spread (map.entries h.0) (ahead s p (entered t))
+        some : (t : Target) → walk (entry_at s) root p ≡ Some t → IsStrictlySortedBy name_cmp (keys_of (items_in s t)) → (x : Option Node) → node_shown (node_at s) (Some t) ≡ x → inside p (map.entries h.0) ≡ own p x ++ spread (map.entries h.0) (ahead s p (frame_of t))
         some t e sorted None f = absurd (no_node None refl (node t e None f))
         some t e sorted (Some v) f =
             inside_target s root (map.entries h.0) all_shown listed.sorted p t v e f sorted
             ∙ ap (λ l. (p, v) ∷ spread (map.entries h.0) l) (sym (ahead_entered s p [] t ∙ append-nil (placed p (items_in s t))))
 
         by : (x : Option Target) → walk (entry_at s) root p ≡ x → IsStrictlySortedBy name_cmp (keys_of (items_from s x)) → inside p (map.entries h.0) ≡ own p (stands (view_of s) root p) ++ spread (map.entries h.0) (ahead s p (entered_from x))
-        by None e sorted = none_inside e ∙ sym (ap (λ v. own p (seen (node_at s) v) ++ []) e)
-        by (Some t) e sorted = some t e sorted (seen (node_at s) (Some t)) refl ∙ sym (ap (λ v. own p (seen (node_at s) v) ++ spread (map.entries h.0) (ahead s p (entered t))) e)
+        by None e sorted = none_inside e ∙ sym (ap (λ v. own p (node_shown (node_at s) v) ++ []) e)
+        by (Some t) e sorted = some t e sorted (node_shown (node_at s) (Some t)) refl ∙ sym (ap (λ v. own p (node_shown (node_at s) v) ++ spread (map.entries h.0) (ahead s p (frame_of t))) e)

@@ -1,5 +1,4 @@
 -- What a regular file has, and what it has after an edit.
--- Cited by `Edit::size`, `Edit::content`, `Layer::edit_content` and others.
 use Rattle.std.specs.Prelude.{ℕ, ◌+◌, ◌-◌, ◌<◌, ◌≤◌, ◌==◌, Bool, false, not, if◌then◌else◌, max, List, [], ◌∷◌, ◌++◌, length, take, drop, replicate, Option, Some, None}
 use Rattle.snap_path.specs.Limits.{most_file_bytes, most_sized_bytes}
 use Rattle.snap_layer.specs.declared.content.Content.{Content}
@@ -56,10 +55,10 @@ edited (Write offset bytes) old = written old offset bytes.now
 edited (Resize size) old = resized old size
 
 -- the edit changes a file of a size
-abbrev pub changes : Edit → ℕ → Bool
-changes Keep size = false
-changes (Write offset bytes) size = not (length bytes.now == 0)
-changes (Resize new) size = not (size == new)
+abbrev pub changes_size : Edit → ℕ → Bool
+changes_size Keep size = false
+changes_size (Write offset bytes) size = not (length bytes.now == 0)
+changes_size (Resize new) size = not (size == new)
 
 -- a file of bytes is longer after the edit: only then it takes memory
 abbrev pub Grows : Edit → Content → Type 0

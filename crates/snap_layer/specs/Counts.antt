@@ -1,9 +1,8 @@
 -- How much a layer takes: its inodes, and its blocks of 4096 bytes.
--- Cited by `Layer::add_dir`, `Layer::add_file`, `Layer::add_symlink` and others.
-use Rattle.std.specs.Prelude.{ℕ, ◌+◌, ◌/◌, Bool, ◌&&◌, nat_le, length, count_by}
+use Rattle.std.specs.Prelude.{ℕ, ◌+◌, ◌-◌, ◌/◌, Bool, ◌&&◌, nat_le, length, count_by}
 use Rattle.std.specs.Map.{values_of}
 use Rattle.std.specs.List.{sum_by}
-use Rattle.snap_path.specs.Limits.{most_number}
+use Rattle.snap_path.specs.Limits.{block_bytes, most_number, most_sized_bytes}
 use Rattle.snap_layer.specs.declared.node.Body.{Body}
 use Rattle.snap_layer.specs.declared.node.Body.TheVariants.{File, Symlink}
 use Rattle.snap_layer.specs.Contents.{size_of}
@@ -25,9 +24,13 @@ name_count k es = count_by (has_number k) (values_of es)
 abbrev pub inode_count : Tree → ℕ
 inode_count t = dir_count t + whiteout_count t + length t.bodies
 
--- the blocks of 4096 bytes of so many bytes
+-- the blocks of so many bytes, the last one counted whole
 abbrev pub blocks_of : ℕ → ℕ
-blocks_of size = (size + 4095) / 4096
+blocks_of size = (size + (block_bytes - 1)) / block_bytes
+
+-- the blocks of the greatest file
+abbrev pub most_file_blocks : ℕ
+most_file_blocks = blocks_of most_sized_bytes
 
 -- the blocks of a file, and none of a symlink
 abbrev pub body_blocks : Body → ℕ

@@ -1,5 +1,4 @@
 -- A directory of a layer, what it has at a name, and its names in order.
--- Cited by `Dir::entry`, `Dir::first_name`.
 use Rattle.std.specs.Prelude.{◌≡◌, ℕ, List, ◌∷◌, ◌++◌, [], filter, Option, Some, None}
 use Rattle.std.specs.Option.{option_map}
 use Rattle.std.specs.Ordering.{nat_cmp}

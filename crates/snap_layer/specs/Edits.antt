@@ -1,5 +1,4 @@
 -- The layer after each edit, and when the edit may be made.
--- Cited by `Layer::add_dir`, `Layer::add_file`, `Layer::add_symlink` and others.
 use Rattle.std.specs.Prelude.{◌≡◌, ℕ, ◌+◌, Bool, true, false, not, ◌==◌, filter, map, List, [], ◌∷◌, ◌++◌, length, drop, Option, Some, None, IsSome, if◌then◌else◌}
 use Rattle.std.specs.Option.{option_map_or}
 use Rattle.std.specs.Ordering.{nat_cmp}
@@ -38,7 +37,7 @@ outside p es = filter (λ e. not (begins p e.0)) es
 abbrev pub bodies_without : Option ℕ → Entries → Bodies → Bodies
 bodies_without o es bs = option_map_or (λ k. if name_count k es == 0 then remove_entry (is_at (nat_cmp k)) bs else bs) o bs
 
--- the layer without what stands at the path; a body goes with its last name (unlink(2))
+-- the layer without what stands at the path, in which there are whiteouts alone; a body goes with its last name (unlink(2))
 abbrev pub without : Tree → Names → Tree
 without t p =
     let es = outside p t.entries in
@@ -72,9 +71,9 @@ with_new t p n b =
     record u { bodies = insert_entry nat_cmp u.bodies t.next b; next = t.next + 1 }
 
 -- the node that names a file number, if it has a body
-abbrev pub name_of : ℕ → Option Body → Option Node
-name_of k None = None
-name_of k (Some b) = Some (leaf_node k b)
+abbrev pub named_node : ℕ → Option Body → Option Node
+named_node k None = None
+named_node k (Some b) = Some (leaf_node k b)
 
 -- the layer with the name, if there is one, in place of what stands at the path
 abbrev pub with_name : Tree → Names → Option Node → Tree

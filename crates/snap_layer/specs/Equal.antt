@@ -1,5 +1,4 @@
 -- The test of `==`. Two nodes, bodies and layers pass it exactly where they are equal.
--- Cited by `Layer::eq`, `Layer as PartialEq`, `Layer as Eq` and others.
 use Rattle.std.specs.Prelude.{◌≡◌, ℕ, Bool, true, false, ◌&&◌, ◌==◌, nat_eq, List, Option, Some, None, refl}
 use Rattle.std.specs.Bool.{Decides, beq}
 use Rattle.std.specs.Option.{option_eq}

@@ -1,5 +1,4 @@
 -- The layer that a table of inodes is.
--- Cited by invariants and private clauses alone.
 use Rattle.std.specs.Prelude.{◌≡◌, ℕ, List, Option, Some, option_map, option_and_then}
 use Rattle.std.specs.Ordering.{nat_cmp}
 use Rattle.std.specs.Map.{lookup, keys_of}
@@ -21,7 +20,7 @@ use Rattle.snap_layer.specs.Counts.{name_count}
 use Rattle.snap_layer.specs.Layers.{IsLayer}
 use Rattle.snap_layer.specs.declared.inode.Inode.{Inode}
 use Rattle.snap_layer.specs.declared.inode.Target.TheVariants as target
-use Rattle.snap_layer.specs.Walk.{walk, stands, body_at, View, view_of, IsTable}
+use Rattle.snap_layer.specs.Walk.{walk, stands, body_at, SlotView, view_of, IsTable}
 
 -- the finite map of what stands at the paths
 abbrev pub Holds : Slots Inode → ℕ → Type 0
@@ -52,18 +51,18 @@ abbrev pub tree_of : map.FinMap path_cmp Node → Slots Inode → Places → ℕ
 tree_of t s places next most = record { entries = map.entries t; bodies = bodies_of (body_at s) places; next = next; most = most }
 
 -- a file or symlink with the number has the key
-abbrev pub IsLeafOf : View → ℕ → ℕ → Type 0
+abbrev pub IsLeafOf : SlotView → ℕ → ℕ → Type 0
 IsLeafOf s k c = (b : Body) × (s.bodies c ≡ Some b) × (s.nodes c ≡ Some (leaf_node k b))
 
 -- what holds of the places: each file that a path reaches has its place, each place has its file, and its links are its names
-pub record IsFiled (s : View) (root : ℕ) (places : Places) (tree : Tree) : Type 0 where
+pub record IsFiled (s : SlotView) (root : ℕ) (places : Places) (tree : Tree) : Type 0 where
   pub placed : (p : Names) (c k : ℕ) → walk s.entries root p ≡ Some (target.Inode c) → option_and_then number_of (s.nodes c) ≡ Some k → place places k ≡ Some c
   pub housed : (k c : ℕ) → place places k ≡ Some c → IsLeafOf s k c
   pub counted : (k c : ℕ) → place places k ≡ Some c → s.counts c ≡ name_count k tree.entries
   pub sorted : IsStrictlySortedBy nat_cmp (keys_of places)
 
 -- what holds of each table and the layer that it is
-pub record IsKept (s : View) (root : ℕ) (places : Places) (tree : Tree) : Type 0 where
+pub record IsKept (s : SlotView) (root : ℕ) (places : Places) (tree : Tree) : Type 0 where
   pub table : IsTable s root
   pub filed : IsFiled s root places tree
   pub layer : IsLayer tree

@@ -1,5 +1,4 @@
 -- The path that leads to a directory.
--- Cited by invariants and private clauses alone.
 use Rattle.std.specs.Prelude.{◌≡◌, ℕ, Option, Some}
 use Rattle.std.specs.Coded.{Coded, coded_ℕ, coded_list, coded_option, Coded-set}
 use mathlib.Core.HLevel.{Σ_prop_path, Π_prop, ×_prop, →_prop}

@@ -1,5 +1,4 @@
 -- The entries of a table in order of paths, as a walk comes to them.
--- Cited by invariants and private clauses alone.
 use Rattle.std.specs.Prelude.{◌≡◌, ◌+◌, ◌≤◌, ℕ, Bool, true, false, List, [], ◌∷◌, ◌++◌, length, map, nat_le, Option, Some, None, IsSome}
 use Rattle.std.specs.declared.cmp.Ordering.{Ordering}
 use Rattle.std.specs.Ordering.{nat_cmp}
@@ -51,8 +50,8 @@ bound_of None = Unbounded
 bound_of (Some n) = Excluded n
 
 -- the items above the name, or all
-abbrev pub after : Option (List ℕ) → Items → Items
-after o es = entries_between name_cmp (bound_of o) Unbounded es
+abbrev pub items_above : Option (List ℕ) → Items → Items
+items_above o es = entries_between name_cmp (bound_of o) Unbounded es
 
 -- the items with the paths of the directory's names
 abbrev pub placed : Names → Items → List (Names × Target)
@@ -75,7 +74,7 @@ last_path p (f ∷ fs) = last_path (pushed p f.1) fs
 -- what the directories on the way still have, in order of paths
 abbrev pub ahead : Slots Inode → Names → Frames → List (Names × Target)
 ahead s p [] = []
-ahead s p (f ∷ fs) = ahead s (pushed p f.1) fs ++ placed p (after f.1 (items_at s f.0))
+ahead s p (f ∷ fs) = ahead s (pushed p f.1) fs ++ placed p (items_above f.1 (items_at s f.0))
 
 -- the entries at these places and below them
 abbrev pub spread : {X : Type 0} → Entries → List (Names × X) → Entries
@@ -92,9 +91,9 @@ frames_text [] = 0
 frames_text (f ∷ fs) = frame_text f.1 + frames_text fs
 
 -- an inode on the way to what stands at its names, and no whiteout
-abbrev pub entered : Target → Frames
-entered target.Whiteout = []
-entered (target.Inode c) = (c, None) ∷ []
+abbrev pub frame_of : Target → Frames
+frame_of target.Whiteout = []
+frame_of (target.Inode c) = (c, None) ∷ []
 
 -- each has a name that came
 abbrev pub AreNamed : Frames → Type 0
@@ -139,7 +138,7 @@ own p (Some n) = (p, n) ∷ []
 -- the same of what a path leads to
 abbrev pub entered_from : Option Target → Frames
 entered_from None = []
-entered_from (Some t) = entered t
+entered_from (Some t) = frame_of t
 
 abbrev pub items_from : Slots Inode → Option Target → Items
 items_from s None = []

@@ -1,5 +1,4 @@
 -- What a layer keeps beside its inodes: what it takes, and the number of its paths.
--- Cited by invariants and private clauses alone.
 use Rattle.std.specs.Prelude.{◌≡◌, ℕ, ◌+◌, Bool, ◌&&◌, nat_le, List, [], ◌∷◌, ◌++◌}
 use Rattle.std.specs.List.{sum_by}
 use Rattle.std.specs.Map.{values_of}

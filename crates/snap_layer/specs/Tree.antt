@@ -1,5 +1,4 @@
 -- What a layer holds: its paths, the bodies of its files, the number of its next file, and the most inodes that it may have.
--- Cited by `Dir::node`, `Dir::entry`, `Dir::body` and others.
 use Rattle.std.specs.Prelude.{◌≡◌, ℕ, Bool, true, false, ◌==◌, ◌||◌, if◌then◌else◌, List, [], ◌∷◌, ◌++◌, Option, Some, None, option_and_then}
 use Rattle.std.specs.declared.cmp.Ordering.{Ordering}
 use Rattle.std.specs.Ordering.{nat_cmp}

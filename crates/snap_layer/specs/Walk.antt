@@ -1,5 +1,4 @@
 -- What stands at each path of a table of inodes, by recursion on the path.
--- Cited by invariants and private clauses alone.
 use Rattle.std.specs.Prelude.{◌≡◌, ℕ, ◌+◌, ◌<◌, ◌≤◌, Bool, if◌then◌else◌, List, [], ◌∷◌, Option, Some, None, IsSome, option_and_then}
 use Rattle.std.specs.Map.{lookup, remove_entry}
 use Rattle.std.specs.Ordering.{nat_cmp}
@@ -51,14 +50,14 @@ body_of (Some (Dir mode opaque entries)) = None
 body_of (Some (Leaf number links body)) = Some body
 
 -- the links of a leaf
-abbrev pub count_of : Option Inode → ℕ
-count_of None = 0
-count_of (Some (Dir mode opaque entries)) = 0
-count_of (Some (Leaf number links body)) = links
+abbrev pub links_of : Option Inode → ℕ
+links_of None = 0
+links_of (Some (Dir mode opaque entries)) = 0
+links_of (Some (Leaf number links body)) = links
 
 -- the same of the inode with a key
 abbrev pub count_at : Slots Inode → ℕ → ℕ
-count_at s c = count_of (get s c)
+count_at s c = links_of (get s c)
 
 -- the entry of the directory with a key
 abbrev pub entry_at : Slots Inode → Table
@@ -73,28 +72,28 @@ abbrev pub body_at : Slots Inode → ℕ → Option Body
 body_at s c = body_of (get s c)
 
 -- what is read of the slots: the entries, the nodes, the bodies and the link counts
-pub record View : Type 0 where
+pub record SlotView : Type 0 where
   pub entries : Table
   pub nodes : ℕ → Option Node
   pub bodies : ℕ → Option Body
   pub counts : ℕ → ℕ
 
 -- what is read of a slab
-abbrev pub view_of : Slots Inode → View
+abbrev pub view_of : Slots Inode → SlotView
 view_of s = record { entries = entry_at s; nodes = node_at s; bodies = body_at s; counts = count_at s }
 
 -- the node that a target shows
-abbrev pub seen : (ℕ → Option Node) → Option Target → Option Node
-seen nodes None = None
-seen nodes (Some target.Whiteout) = Some node.Whiteout
-seen nodes (Some (target.Inode c)) = nodes c
+abbrev pub node_shown : (ℕ → Option Node) → Option Target → Option Node
+node_shown nodes None = None
+node_shown nodes (Some target.Whiteout) = Some node.Whiteout
+node_shown nodes (Some (target.Inode c)) = nodes c
 
 -- the node at a path
-abbrev pub stands : View → ℕ → Names → Option Node
-stands s root p = seen s.nodes (walk s.entries root p)
+abbrev pub stands : SlotView → ℕ → Names → Option Node
+stands s root p = node_shown s.nodes (walk s.entries root p)
 
 -- what holds of each table: the root is a directory, what a path leads to is there, and no directory is reached by two paths
-pub record IsTable (s : View) (root : ℕ) : Type 0 where
+pub record IsTable (s : SlotView) (root : ℕ) : Type 0 where
   pub root_dir : IsDirAt (s.nodes root)
   pub there : (p : Names) (c : ℕ) → walk s.entries root p ≡ Some (target.Inode c) → IsSome (s.nodes c)
   pub forest : (p q : Names) (c : ℕ) → IsDirAt (s.nodes c) → walk s.entries root p ≡ Some (target.Inode c) → walk s.entries root q ≡ Some (target.Inode c) → p ≡ q
@@ -118,21 +117,21 @@ pub record Puts (e f : Table) (d : ℕ) (n : List ℕ) (w : Option Target) : Typ
   pub dirs : (c : ℕ) (m : List ℕ) → (c ≡ d → ⊥) → f c m ≡ e c m
 
 -- t reads as s, but for the directory's entry
-pub record Links (s t : View) (d : ℕ) (n : List ℕ) (w : Option Target) : Type 0 where
+pub record Links (s t : SlotView) (d : ℕ) (n : List ℕ) (w : Option Target) : Type 0 where
   pub entries : Puts s.entries t.entries d n w
   pub nodes : (c : ℕ) → t.nodes c ≡ s.nodes c
   pub bodies : (c : ℕ) → t.bodies c ≡ s.bodies c
   pub counts : (c : ℕ) → t.counts c ≡ s.counts c
 
 -- t reads as s
-pub record Same (s t : View) : Type 0 where
+pub record Same (s t : SlotView) : Type 0 where
   pub entries : (c : ℕ) (m : List ℕ) → t.entries c m ≡ s.entries c m
   pub nodes : (c : ℕ) → t.nodes c ≡ s.nodes c
   pub bodies : (c : ℕ) → t.bodies c ≡ s.bodies c
   pub counts : (c : ℕ) → t.counts c ≡ s.counts c
 
 -- t is s with a new inode without entries under a vacant key, and the entry for it
-pub record Adds (s t : View) (d : ℕ) (n : List ℕ) (k : ℕ) (v : Node) (b : Option Body) (l : ℕ) : Type 0 where
+pub record Adds (s t : SlotView) (d : ℕ) (n : List ℕ) (k : ℕ) (v : Node) (b : Option Body) (l : ℕ) : Type 0 where
   pub entries : Puts s.entries t.entries d n (Some (target.Inode k))
   pub vacant : s.nodes k ≡ None
   pub bare : (m : List ℕ) → t.entries k m ≡ None
@@ -148,7 +147,7 @@ abbrev pub left_at : Bool → Option Target
 left_at leaves = if leaves then Some target.Whiteout else None
 
 -- t has at one entry what s had at another, there what is left, and else reads as s
-pub record Shifted (s t : View) (df : ℕ) (nf : List ℕ) (dt : ℕ) (nt : List ℕ) (leaves : Bool) : Type 0 where
+pub record Shifted (s t : SlotView) (df : ℕ) (nf : List ℕ) (dt : ℕ) (nt : List ℕ) (leaves : Bool) : Type 0 where
   pub to : t.entries dt nt ≡ s.entries df nf
   pub from : t.entries df nf ≡ left_at leaves
   pub others : (c : ℕ) (m : List ℕ) → (c ≡ df → m ≡ nf → ⊥) → (c ≡ dt → m ≡ nt → ⊥) → t.entries c m ≡ s.entries c m
@@ -157,7 +156,7 @@ pub record Shifted (s t : View) (df : ℕ) (nf : List ℕ) (dt : ℕ) (nt : List
   pub counts : (c : ℕ) → t.counts c ≡ s.counts c
 
 -- t is s without a directory's inode, whose slot is vacant, or with one name fewer of a leaf: a link fewer, or the slot vacant and the place free
-pub record Frees (s t : View) (ps qs : List (ℕ × ℕ)) (k : ℕ) : Type 0 where
+pub record Frees (s t : SlotView) (ps qs : List (ℕ × ℕ)) (k : ℕ) : Type 0 where
   pub entries : (c : ℕ) (m : List ℕ) → (c ≡ k → ⊥) → t.entries c m ≡ s.entries c m
   pub nodes : (c : ℕ) → (c ≡ k → ⊥) → t.nodes c ≡ s.nodes c
   pub bodies : (c : ℕ) → (c ≡ k → ⊥) → t.bodies c ≡ s.bodies c
@@ -170,22 +169,22 @@ pub record Frees (s t : View) (ps qs : List (ℕ × ℕ)) (k : ℕ) : Type 0 whe
   pub dir_slot : option_and_then number_of (s.nodes k) ≡ None → t.nodes k ≡ None
 
 -- t is s without what an entry had
-abbrev pub Releases : View → View → List (ℕ × ℕ) → List (ℕ × ℕ) → Option Target → Type 0
+abbrev pub Releases : SlotView → SlotView → List (ℕ × ℕ) → List (ℕ × ℕ) → Option Target → Type 0
 Releases s t ps qs (Some (target.Inode k)) = Frees s t ps qs k
 Releases s t ps qs other = Same s t × (qs ≡ ps)
 
 -- t has the target, or nothing, at the entry, in place of what s has there, which is released
-pub record Drops (s t : View) (ps qs : List (ℕ × ℕ)) (d : ℕ) (n : List ℕ) (w : Option Target) : Type 0 where
-  pub between : View
+pub record Drops (s t : SlotView) (ps qs : List (ℕ × ℕ)) (d : ℕ) (n : List ℕ) (w : Option Target) : Type 0 where
+  pub between : SlotView
   pub links : Links s between d n w
   pub releases : Releases between t ps qs (s.entries d n)
 
 -- the same with a whiteout
-abbrev pub Covers : View → View → List (ℕ × ℕ) → List (ℕ × ℕ) → ℕ → List ℕ → Type 0
-Covers s t ps qs d n = Drops s t ps qs d n (Some target.Whiteout)
+abbrev pub LeavesWhiteout : SlotView → SlotView → List (ℕ × ℕ) → List (ℕ × ℕ) → ℕ → List ℕ → Type 0
+LeavesWhiteout s t ps qs d n = Drops s t ps qs d n (Some target.Whiteout)
 
 -- t reads as s, but for a link fewer of the leaf with the key
-pub record Lowers (s t : View) (k : ℕ) : Type 0 where
+pub record Lowers (s t : SlotView) (k : ℕ) : Type 0 where
   pub entries : (c : ℕ) (m : List ℕ) → t.entries c m ≡ s.entries c m
   pub nodes : (c : ℕ) → t.nodes c ≡ s.nodes c
   pub bodies : (c : ℕ) → t.bodies c ≡ s.bodies c
@@ -193,7 +192,7 @@ pub record Lowers (s t : View) (k : ℕ) : Type 0 where
   pub lower : t.counts k + 1 ≡ s.counts k
 
 -- t reads as s, but for a link more of the leaf with the key
-pub record Raises (s t : View) (k : ℕ) : Type 0 where
+pub record Raises (s t : SlotView) (k : ℕ) : Type 0 where
   pub entries : (c : ℕ) (m : List ℕ) → t.entries c m ≡ s.entries c m
   pub bare : (m : List ℕ) → t.entries k m ≡ None
   pub nodes : (c : ℕ) → t.nodes c ≡ s.nodes c
@@ -202,7 +201,7 @@ pub record Raises (s t : View) (k : ℕ) : Type 0 where
   pub raise : t.counts k ≡ s.counts k + 1
 
 -- t is s with one more entry for the leaf with the key, and a link more
-pub record Gains (s t : View) (d : ℕ) (n : List ℕ) (k : ℕ) : Type 0 where
+pub record Gains (s t : SlotView) (d : ℕ) (n : List ℕ) (k : ℕ) : Type 0 where
   pub entries : Puts s.entries t.entries d n (Some (target.Inode k))
   pub bare : (m : List ℕ) → t.entries k m ≡ None
   pub nodes : (c : ℕ) → t.nodes c ≡ s.nodes c
@@ -211,7 +210,7 @@ pub record Gains (s t : View) (d : ℕ) (n : List ℕ) (k : ℕ) : Type 0 where
   pub count : t.counts k ≡ s.counts k + 1
 
 -- t reads as s, but for the node with the key
-pub record Renodes (s t : View) (k : ℕ) (v : Node) : Type 0 where
+pub record Renodes (s t : SlotView) (k : ℕ) (v : Node) : Type 0 where
   pub entries : (c : ℕ) (m : List ℕ) → t.entries c m ≡ s.entries c m
   pub node : t.nodes k ≡ Some v
   pub nodes : (c : ℕ) → (c ≡ k → ⊥) → t.nodes c ≡ s.nodes c
@@ -219,7 +218,7 @@ pub record Renodes (s t : View) (k : ℕ) (v : Node) : Type 0 where
   pub counts : (c : ℕ) → t.counts c ≡ s.counts c
 
 -- t reads as s, but for the body with the key
-pub record Rebodies (s t : View) (k : ℕ) (b : Body) : Type 0 where
+pub record Rebodies (s t : SlotView) (k : ℕ) (b : Body) : Type 0 where
   pub entries : (c : ℕ) (m : List ℕ) → t.entries c m ≡ s.entries c m
   pub nodes : (c : ℕ) → t.nodes c ≡ s.nodes c
   pub body : t.bodies k ≡ Some b
@@ -227,13 +226,13 @@ pub record Rebodies (s t : View) (k : ℕ) (b : Body) : Type 0 where
   pub counts : (c : ℕ) → t.counts c ≡ s.counts c
 
 -- what stands at the entry, if anything does, is covered
-abbrev pub Clears : View → View → List (ℕ × ℕ) → List (ℕ × ℕ) → ℕ → List ℕ → Option Target → Type 0
+abbrev pub Clears : SlotView → SlotView → List (ℕ × ℕ) → List (ℕ × ℕ) → ℕ → List ℕ → Option Target → Type 0
 Clears s t ps qs d n None = Same s t × (qs ≡ ps)
-Clears s t ps qs d n (Some w) = Covers s t ps qs d n
+Clears s t ps qs d n (Some w) = LeavesWhiteout s t ps qs d n
 
 -- t has a new inode at the entry, in place of what s has there, and a new number for it
-pub record Enters (s t : View) (ps qs : List (ℕ × ℕ)) (d : ℕ) (n : List ℕ) (x : ℕ) (v : Node) (b : Option Body) (l : ℕ) : Type 0 where
-  pub cleared : View
+pub record Enters (s t : SlotView) (ps qs : List (ℕ × ℕ)) (d : ℕ) (n : List ℕ) (x : ℕ) (v : Node) (b : Option Body) (l : ℕ) : Type 0 where
+  pub cleared : SlotView
   pub left : List (ℕ × ℕ)
   pub key : ℕ
   pub clears : Clears s cleared ps left d n (s.entries d n)
@@ -245,16 +244,16 @@ pub record Alike (a b : Inode) : Type 0 where
   pub entries : (m : List ℕ) → entry_of (Some b) m ≡ entry_of (Some a) m
   pub node : node_of (Some b) ≡ node_of (Some a)
   pub body : body_of (Some b) ≡ body_of (Some a)
-  pub count : count_of (Some b) ≡ count_of (Some a)
+  pub count : links_of (Some b) ≡ links_of (Some a)
 
 -- t has one more name of the leaf with the key at the entry, in place of what s has there, which is released
-pub record Renames (s t : View) (ps qs : List (ℕ × ℕ)) (d : ℕ) (n : List ℕ) (k : ℕ) : Type 0 where
-  pub cleared : View
+pub record Renames (s t : SlotView) (ps qs : List (ℕ × ℕ)) (d : ℕ) (n : List ℕ) (k : ℕ) : Type 0 where
+  pub cleared : SlotView
   pub clears : Clears s cleared ps qs d n (s.entries d n)
   pub gains : Gains cleared t d n k
 
 -- t has at one entry what s had at another, in place of what s has there, which is released
-pub record Relocates (s t : View) (ps qs : List (ℕ × ℕ)) (df : ℕ) (nf : List ℕ) (dt : ℕ) (nt : List ℕ) (leaves : Bool) : Type 0 where
-  pub cleared : View
+pub record Relocates (s t : SlotView) (ps qs : List (ℕ × ℕ)) (df : ℕ) (nf : List ℕ) (dt : ℕ) (nt : List ℕ) (leaves : Bool) : Type 0 where
+  pub cleared : SlotView
   pub clears : Clears s cleared ps qs dt nt (s.entries dt nt)
   pub shifted : Shifted cleared t df nf dt nt leaves

@@ -2,7 +2,7 @@
 ghost use Rattle.std.specs.Prelude.{◌≡◌, ◌+◌, ◌<◌, ◌≤◌, ℕ, List, IfOk, OnOk, OnErr, length, take, drop, ◌++◌};
 ghost use Rattle.std.specs.Vec.{vec_capacity};
 ghost use Rattle.snap_path.specs.Limits.{most_file_bytes};
-ghost use Rattle.snap_layer.specs.Contents.{bytes_resized, bytes_written, changes, edited, size_of, IsShort};
+ghost use Rattle.snap_layer.specs.Contents.{bytes_resized, bytes_written, changes_size, edited, size_of, IsShort};
 ghost use Rattle.snap_layer.specs.declared.content.Content.{Content as ContentValue};
 ghost use Rattle.snap_layer.specs.declared.content.Content.TheVariants as content_kinds;
 
@@ -42,7 +42,7 @@ impl<'a> Edit<'a> {
 
     /// Whether it changes a file of the size, whose bytes aren't kept.
     pub(crate) fn changes(self, old: u64) -> bool
-        ensures { result ≡ changes self.entry old }
+        ensures { result ≡ changes_size self.entry old }
     {
         match self {
             Edit::Keep => false,

@@ -6,7 +6,7 @@ ghost use Rattle.std.specs.Map.{lookup, keys_of};
 ghost use Rattle.std.specs.BTreeMap.{is_at, insert_entry, IsOrdered};
 ghost use Rattle.slab.specs.Slab.{slab_len, HasRoomFor};
 ghost use Rattle.snap_layer.specs.Tree.{IsDirAt, number_of, leaf_node};
-ghost use Rattle.snap_layer.specs.Walk.{entry_of, entry_at, node_of, body_of, count_of, node_at, body_at, count_at, seen, view_of, Links, Same, Adds, Shifted, Frees, Releases, Drops, Covers, Clears, Enters, Renames, Relocates, Lowers, Raises, Renodes, Rebodies};
+ghost use Rattle.snap_layer.specs.Walk.{entry_of, entry_at, node_of, body_of, links_of, node_at, body_at, count_at, node_shown, view_of, Links, Same, Adds, Shifted, Frees, Releases, Drops, LeavesWhiteout, Clears, Enters, Renames, Relocates, Lowers, Raises, Renodes, Rebodies};
 ghost use Rattle.snap_layer.specs.Holds.{place};
 ghost use Rattle.snap_layer.specs.Edits.{body_with_mode};
 ghost use Rattle.snap_layer.specs.Counts.{body_blocks};
@@ -91,7 +91,7 @@ pub(crate) fn put_inode(
 ) -> Result<(), AllocError>
     requires dir { IsDirAt (node_at slots.old dir) }
     requires bare { (m : List ℕ) → entry_of (Some inode) m ≡ None }
-    ensures ok { OnOk result ((v : ANode) → node_of (Some inode) ≡ Some v → Adds (view_of slots.old) (view_of slots.new) dir name.now slots.old.vacant_key v (body_of (Some inode)) (count_of (Some inode))) }
+    ensures ok { OnOk result ((v : ANode) → node_of (Some inode) ≡ Some v → Adds (view_of slots.old) (view_of slots.new) dir name.now slots.old.vacant_key v (body_of (Some inode)) (links_of (Some inode))) }
     ensures err { OnErr result (Same (view_of slots.old) (view_of slots.new)) }
     ensures sure { HasRoomFor slots.old 1 → OnErr result (entry_at slots.old dir name.now ≡ None) }
 {
@@ -217,7 +217,7 @@ pub(crate) fn cover(
     name: &Name,
 ) -> Result<(), AllocError>
     requires { IsDirAt (node_at slots.old dir) }
-    ensures ok { OnOk result (Covers (view_of slots.old) (view_of slots.new) places.old.entries places.new.entries dir name.now) }
+    ensures ok { OnOk result (LeavesWhiteout (view_of slots.old) (view_of slots.new) places.old.entries places.new.entries dir name.now) }
     ensures err { OnErr result (Same (view_of slots.old) (view_of slots.new) × (places.new.entries ≡ places.old.entries)) }
     ensures sure { OnErr result (entry_at slots.old dir name.now ≡ None) }
     ensures room { HasRoomFor slots.old 1 → HasRoomFor slots.new 1 }
@@ -233,18 +233,17 @@ fn clear_entry(slots: &mut Slab<Inode>, places: &mut BTreeMap<u32, usize>, dir: 
     requires { IsDirAt (node_at slots.old dir) }
     ensures clears { Clears (view_of slots.old) (view_of slots.new) places.old.entries places.new.entries dir name.now (entry_at slots.old dir name.now) }
     ensures room { HasRoomFor slots.old 1 → HasRoomFor slots.new 1 }
-    ensures ordered { IsOrdered nat_cmp places.new }
 {
     if entry(slots, dir, name).is_some() {
         let _ = cover(slots, places, dir, name);
     }
-    let _ = places.len();
 }
 
 /// Gives the number, which has a place, another one.
 fn set_place(places: &mut BTreeMap<u32, usize>, number: u32, key: usize)
     requires { IsSome (place places.old.entries number) }
-    ensures { places.new.entries ≡ insert_entry nat_cmp places.old.entries number key }
+    ensures entries { places.new.entries ≡ insert_entry nat_cmp places.old.entries number key }
+    ensures ordered { IsOrdered nat_cmp places.old }
 {
     let _ = places.insert(number, key);
 }
@@ -263,8 +262,8 @@ pub(crate) fn put_leaf(
     requires fresh { place places.old.entries number ≡ None }
     requires sorted { IsOrdered nat_cmp places.old }
     requires apart { entry_at slots.old dir name.now ≡ Some (Target.Inode dir) → ⊥ }
-    requires other { option_and_then number_of (seen (node_at slots.old) (entry_at slots.old dir name.now)) ≡ Some number → ⊥ }
-    ensures ok { OnOk result ((v : ANode) → node_of (Some inode) ≡ Some v → Enters (view_of slots.old) (view_of slots.new) places.old.entries places.new.entries dir name.now number v (body_of (Some inode)) (count_of (Some inode))) }
+    requires other { option_and_then number_of (node_shown (node_at slots.old) (entry_at slots.old dir name.now)) ≡ Some number → ⊥ }
+    ensures ok { OnOk result ((v : ANode) → node_of (Some inode) ≡ Some v → Enters (view_of slots.old) (view_of slots.new) places.old.entries places.new.entries dir name.now number v (body_of (Some inode)) (links_of (Some inode))) }
     ensures err { OnErr result (Same (view_of slots.old) (view_of slots.new) × (places.new.entries ≡ places.old.entries)) }
 {
     slots.reserve(1)?;

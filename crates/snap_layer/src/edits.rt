@@ -5,12 +5,12 @@ ghost use Rattle.snap_path.specs.Limits.{most_mode};
 ghost use Rattle.snap_path.specs.Memory.{no_memory};
 ghost use Rattle.snap_path.specs.Text.{IsPath};
 ghost use Rattle.snap_layer.specs.Tree.{at, body, number_at, IsDirAt, leaf_node};
-ghost use Rattle.snap_layer.specs.Counts.{body_blocks, is_within};
+ghost use Rattle.snap_layer.specs.Counts.{body_blocks, is_within, most_file_blocks};
 ghost use Rattle.snap_layer.specs.Contents.{body_content, edited, Grows, IsContent, IsShort};
 ghost use Rattle.snap_layer.specs.Totals.{path_count, fits, IsClear, IsRoom};
 ghost use Rattle.snap_layer.specs.Layers.{IsLayer, IsBody, is_target};
 ghost use Rattle.snap_layer.specs.declared.content.Content.{Content as ContentValue};
-ghost use Rattle.snap_layer.specs.Edits.{with_body, with_entry, with_node, with_new, with_name, name_of, with_filled, with_mode, with_opaque, with_moved, with_linked, with_tree_taken, without, without_tree, inside, HasRoom, HasRooms, HasPlace, IsInnerDir, IsTakeable, IsMovable, IsRegular, HasMode};
+ghost use Rattle.snap_layer.specs.Edits.{with_body, with_entry, with_node, with_new, with_name, named_node, with_filled, with_mode, with_opaque, with_moved, with_linked, with_tree_taken, without, without_tree, inside, HasRoom, HasRooms, HasPlace, IsInnerDir, IsTakeable, IsMovable, IsRegular, HasMode};
 
 use super::bytes::Edit;
 use super::content::Content;
@@ -31,6 +31,7 @@ impl Layer {
         requires room { HasRoom self.old path.now }
         requires mode { mode ≤ most_mode }
         ensures ok { OnOk result (self.new ≡ with_entry self.old path.now (Node.Dir mode opaque)) }
+        ensures layer { OnOk result (IsLayer self.new) }
         ensures full { IsErrOf result LayerError.LayerFull ↔ (is_within (with_entry self.old path.now (Node.Dir mode opaque)) ≡ false) }
         ensures err { OnErr result (self.new ≡ self.old) }
     {
@@ -51,6 +52,7 @@ impl Layer {
         requires mode { mode ≤ most_mode }
         requires content { IsContent content }
         ensures ok { OnOk result (self.new ≡ with_new self.old path.now (Node.File self.old.next) (Body.File mode content)) }
+        ensures layer { OnOk result (IsLayer self.new) }
         ensures number { IfOk result (λ k. k ≡ self.old.next) }
         ensures full { IsErrOf result LayerError.LayerFull ↔ (is_within (with_new self.old path.now (Node.File self.old.next) (Body.File mode content)) ≡ false) }
         ensures err { OnErr result (self.new ≡ self.old) }
@@ -66,6 +68,7 @@ impl Layer {
         requires place { HasPlace self.old path.now }
         requires target { is_target target ≡ true }
         ensures ok { OnOk result (self.new ≡ with_new self.old path.now (Node.Symlink self.old.next) (Body.Symlink target)) }
+        ensures layer { OnOk result (IsLayer self.new) }
         ensures number { IfOk result (λ k. k ≡ self.old.next) }
         ensures full { IsErrOf result LayerError.LayerFull ↔ (is_within (with_new self.old path.now (Node.Symlink self.old.next) (Body.Symlink target)) ≡ false) }
         ensures err { OnErr result (self.new ≡ self.old) }
@@ -78,6 +81,7 @@ impl Layer {
         requires place { HasPlace self.old path.now }
         requires fits { IsBody body }
         ensures ok { OnOk result (self.new ≡ with_new self.old path.now (leaf_node self.old.next body) body) }
+        ensures layer { OnOk result (IsLayer self.new) }
         ensures number { IfOk result (λ k. k ≡ self.old.next) }
         ensures full { IsErrOf result LayerError.LayerFull ↔ (is_within (with_new self.old path.now (leaf_node self.old.next body) body) ≡ false) }
         ensures err { OnErr result (self.new ≡ self.old) }
@@ -98,7 +102,8 @@ impl Layer {
         requires place { HasPlace self.old path.now }
         requires there { IsSome (body self.old number) }
         requires apart { number_at self.old path.now ≡ Some number → ⊥ }
-        ensures ok { OnOk result (self.new ≡ with_name self.old path.now (name_of number (body self.old number))) }
+        ensures ok { OnOk result (self.new ≡ with_name self.old path.now (named_node number (body self.old number))) }
+        ensures layer { OnOk result (IsLayer self.new) }
         ensures sure { OnErr result (at self.old path.now ≡ None) }
         ensures err { OnErr result (self.new ≡ self.old) }
     {
@@ -119,6 +124,7 @@ impl Layer {
         requires rooms { HasRooms self.old path.now link.now }
         requires fits { IsBody body }
         ensures ok { OnOk result (self.new ≡ with_linked self.old path.now link.now body) }
+        ensures layer { OnOk result (IsLayer self.new) }
         ensures full { IsErrOf result LayerError.LayerFull ↔ (is_within (with_linked self.old path.now link.now body) ≡ false) }
         ensures err { OnErr result (self.new ≡ self.old) }
     {
@@ -139,6 +145,7 @@ impl Layer {
     pub fn add_whiteout(&mut self, path: &Path) -> Result<(), LayerError>
         requires { HasPlace self.old path.now }
         ensures ok { OnOk result (self.new ≡ with_node self.old path.now Node.Whiteout) }
+        ensures layer { OnOk result (IsLayer self.new) }
         ensures full { IsErrOf result LayerError.LayerFull ↔ (is_within (with_node self.old path.now Node.Whiteout) ≡ false) }
         ensures sure { IsErrOf result (LayerError.OutOfMemory no_memory) → at self.old path.now ≡ None }
         ensures err { OnErr result (self.new ≡ self.old) }
@@ -155,7 +162,8 @@ impl Layer {
     /// The conditions are those of `is_takeable`. Takes no memory. Cost: as `add_file`.
     pub fn take_name(&mut self, path: &Path)
         requires { IsTakeable self.old path.now }
-        ensures { self.new ≡ without self.old path.now }
+        ensures next { self.new ≡ without self.old path.now }
+        ensures layer { IsLayer self.new }
     {
         let left = self.left(path);
         self.table.take(path);
@@ -171,12 +179,11 @@ impl Layer {
     pub fn take_tree(&mut self, path: &Path, leaves: bool) -> Result<(), AllocError>
         requires { IsInnerDir self.old path.now }
         ensures ok { OnOk result (self.new ≡ with_tree_taken self.old path.now leaves) }
+        ensures layer { OnOk result (IsLayer self.new) }
         ensures err { OnErr result (self.new ≡ self.old) }
     {
-        let _ = &self.is_layer;
         let paths = self.table.paths_inside(path)?;
         self.take_below(path, paths);
-        let _ = &self.is_layer;
         if leaves {
             let _ = self.add_whiteout(path);
             return Ok(());
@@ -190,11 +197,12 @@ impl Layer {
     fn take_below(&mut self, path: &Path, mut paths: Vec<Path>)
         requires paths { paths.items ≡ keys_of (inside path.now self.old.entries) }
         requires dir { IsDirAt (at self.old path.now) }
+        requires layer { IsLayer self.old }
         ensures below { keys_of (inside path.now self.new.entries) ≡ path.now ∷ [] }
         ensures same { at self.new path.now ≡ at self.old path.now }
         ensures rest { without_tree self.new path.now ≡ without_tree self.old path.now }
+        ensures layer { IsLayer self.new }
     {
-        let _ = &self.is_layer;
         while paths.len() > 1 {
             if let Some(last) = paths.pop() {
                 self.take_name(&last);
@@ -214,6 +222,7 @@ impl Layer {
     pub fn move_tree(&mut self, from: &Path, to: &Path, leaves: bool) -> Result<(), LayerError>
         requires { IsMovable self.old from.now to.now }
         ensures ok { OnOk result (self.new ≡ with_moved self.old from.now to.now leaves) }
+        ensures layer { OnOk result (IsLayer self.new) }
         ensures full { IsErrOf result LayerError.LayerFull ↔ (is_within (with_moved self.old from.now to.now leaves) ≡ false) }
         ensures err { OnErr result (self.new ≡ self.old) }
     {
@@ -230,7 +239,8 @@ impl Layer {
     pub fn set_content(&mut self, number: u32, content: Content)
         requires file { IsRegular (body self.old number) }
         requires content { IsContent content }
-        ensures { self.new ≡ with_filled self.old number (body self.old number) content }
+        ensures next { self.new ≡ with_filled self.old number (body self.old number) content }
+        ensures layer { IsLayer self.new }
     {
         let Some(old) = self.body(number) else {
             return;
@@ -253,11 +263,11 @@ impl Layer {
         requires file { IsRegular (body self.old number) }
         requires short { IsShort edit (body_content (body self.old number)) }
         ensures ok { OnOk result (self.new ≡ with_filled self.old number (body self.old number) (edited edit.entry (body_content (body self.old number)))) }
+        ensures layer { OnOk result (IsLayer self.new) }
         // Only a growth takes memory.
         ensures grows { OnErr result (Grows edit.entry (body_content (body self.old number))) }
         ensures err { OnErr result (self.new ≡ self.old) }
     {
-        let _ = &self.is_layer;
         let (freed, taken) = self.table.edit_content(number, edit)?;
         self.totals.blocks = self.totals.blocks - freed + taken;
         Ok(())
@@ -269,9 +279,9 @@ impl Layer {
     /// The condition is that a directory stands there. Takes no memory. Cost: as `at`.
     pub fn set_opaque(&mut self, path: &Path, opaque: bool)
         requires { IsDirAt (at self.old path.now) }
-        ensures { self.new ≡ with_opaque self.old path.now (at self.old path.now) opaque }
+        ensures next { self.new ≡ with_opaque self.old path.now (at self.old path.now) opaque }
+        ensures layer { IsLayer self.new }
     {
-        let _ = &self.is_layer;
         if let Some(Node::Dir { mode, .. }) = self.at(path) {
             self.set_dir(path, mode, opaque);
         }
@@ -284,9 +294,9 @@ impl Layer {
     pub fn set_mode(&mut self, path: &Path, mode: u32)
         requires there { HasMode (at self.old path.now) }
         requires mode { mode ≤ most_mode }
-        ensures { self.new ≡ with_mode self.old path.now (at self.old path.now) mode }
+        ensures next { self.new ≡ with_mode self.old path.now (at self.old path.now) mode }
+        ensures layer { IsLayer self.new }
     {
-        let _ = &self.is_layer;
         match self.at(path) {
             Some(Node::Dir { opaque, .. }) => self.set_dir(path, mode, opaque),
             Some(Node::File { number }) => self.table.set_file_mode(number, mode),
@@ -305,7 +315,7 @@ impl Layer {
         inodes: usize,
         blocks: u64,
     ) -> Result<Totals, LayerError>
-        requires blocks { blocks ≤ 268435456 }
+        requires blocks { blocks ≤ most_file_blocks }
         requires inodes { inodes ≤ 1 }
         requires clear { IsClear self.now path.now }
         ensures room { IfOk result (λ v. IsRoom v self.now path.now inodes blocks) }
@@ -332,9 +342,9 @@ impl Layer {
     fn set_dir(&mut self, path: &Path, mode: u32, opaque: bool)
         requires dir { IsDirAt (at self.old path.now) }
         requires mode { mode ≤ most_mode }
-        ensures { self.new ≡ with_entry self.old path.now (Node.Dir mode opaque) }
+        ensures next { self.new ≡ with_entry self.old path.now (Node.Dir mode opaque) }
+        ensures layer { IsLayer self.new }
     {
-        let _ = &self.is_layer;
         self.table.set_dir(path, mode, opaque);
     }
 
@@ -342,9 +352,9 @@ impl Layer {
     fn fill(&mut self, number: u32, mode: u32, freed: u64, content: Content)
         requires there { (old : ContentValue) × (freed ≡ body_blocks (Body.File mode old)) × (body self.old number ≡ Some (Body.File mode old)) }
         requires content { IsContent content }
-        ensures { self.new ≡ with_body self.old number (Body.File mode content) }
+        ensures next { self.new ≡ with_body self.old number (Body.File mode content) }
+        ensures layer { IsLayer self.new }
     {
-        let _ = &self.is_layer;
         let new = Body::File { mode, content };
         let blocks = self.totals.blocks - freed + new.blocks();
         self.table.set_body(number, new);

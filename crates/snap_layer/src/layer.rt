@@ -1,5 +1,5 @@
 // A layer, and what is read of it.
-ghost use Rattle.std.specs.Prelude.{◌≡◌, ◌↔◌, ◌≤◌, ◌+◌, [], ◌++◌, if◌then◌else◌, IfOk, IsSome, IsTrue, is_some, length, take, find, nat_lt, option_and_then};
+ghost use Rattle.std.specs.Prelude.{◌≡◌, ◌↔◌, ◌≤◌, ◌+◌, [], ◌∷◌, ◌++◌, ℕ, List, if◌then◌else◌, IfOk, IsSome, IsTrue, is_some, length, take, find, nat_lt, option_and_then};
 ghost use Rattle.std.specs.Option.{option_copied};
 ghost use Rattle.std.specs.List.{sum_by};
 ghost use Rattle.std.specs.Map.{keys_of, values_of};
@@ -9,7 +9,7 @@ ghost use Rattle.snap_layer.specs.Tree.{at, body, names_below, number_of, IsDirA
 ghost use Rattle.snap_layer.specs.Counts.{dir_count, whiteout_count, name_count, inode_count, block_count, body_blocks, most_inodes};
 ghost use Rattle.snap_layer.specs.Totals.{path_count, IsClear};
 ghost use Rattle.snap_layer.specs.Layers.{IsLayer};
-ghost use Rattle.snap_layer.specs.Edits.{root_only, root_within, without, without_tree, HasParent, HasRoom, HasRooms, HasPlace, IsTakeable, IsMovable};
+ghost use Rattle.snap_layer.specs.Edits.{root_only, root_within, without, without_tree, HasParent, HasRoom, HasRooms, HasPlace, IsFree, IsTakeable, IsMovable};
 
 use super::dir::Dir;
 use super::node::{Body, Node};
@@ -30,9 +30,6 @@ use std::marker::Model;
 pub struct Layer {
     pub(crate) table: Table,
     pub(crate) totals: Totals,
-    /// Nothing. `let _ = &layer.is_layer;` tells a proof that the layer is one by `IsLayer`, and nothing runs for
-    /// it.
-    pub is_layer: (),
 }
 
 impl Model for Layer {
@@ -106,7 +103,6 @@ impl Layer {
                 blocks: 1,
                 paths: 1,
             },
-            is_layer: (),
         })
     }
 
@@ -120,7 +116,6 @@ impl Layer {
         Ok(Layer {
             table: self.table.copy()?,
             totals: self.totals,
-            is_layer: (),
         })
     }
 
@@ -128,7 +123,8 @@ impl Layer {
     ///
     /// Takes no memory. The cost is constant.
     pub fn root_dir(&self) -> Dir<'_>
-        ensures { result ≡ record { layer = self.now; path = [] } }
+        ensures dir { result ≡ record { layer = self.now; path = [] } }
+        ensures layer { IsLayer self.now }
     {
         self.table.root_dir()
     }
@@ -137,7 +133,9 @@ impl Layer {
     ///
     /// Takes no memory. Cost: for each name of the path the logarithm of a directory's entries.
     pub fn at(&self, path: &Path) -> Option<Node>
-        ensures { result ≡ at self.now path.now }
+        ensures node { result ≡ at self.now path.now }
+        ensures path { IsPath path.now }
+        ensures layer { IsLayer self.now }
     {
         self.table.at(path)
     }
@@ -166,7 +164,8 @@ impl Layer {
     ///
     /// Takes no memory. Cost: the logarithm of the number of files.
     pub fn body(&self, number: u32) -> Option<&Body>
-        ensures { option_copied result ≡ body self.now number }
+        ensures body { option_copied result ≡ body self.now number }
+        ensures layer { IsLayer self.now }
     {
         self.table.body(number)
     }
@@ -186,7 +185,8 @@ impl Layer {
     ///
     /// Takes no memory. The cost is constant.
     pub fn inodes(&self) -> usize
-        ensures { result ≡ inode_count self.now }
+        ensures count { result ≡ inode_count self.now }
+        ensures layer { IsLayer self.now }
     {
         self.totals.inodes
     }
@@ -202,13 +202,15 @@ impl Layer {
         self.table.most_inodes()
     }
 
-    /// The inodes that are left where what stands at the path and below it is taken. The inode of a file or
+    /// The inodes that are left where what stands at the path and the whiteouts in it are taken. The inode of a file or
     /// a symlink at the path goes where it has no name elsewhere (unlink(2)).
     ///
-    /// A walk of more than 16 directories, each in the other, takes memory, and does without it where it is refused.
+    /// The condition is that nothing but whiteouts stands below the path, which `has_place` and `is_takeable` test. A
+    /// walk of more than 16 directories, each in the other, takes memory, and does without it where it is refused.
     /// Cost: as `at`, and, where a directory stands there, the number of paths below it times the logarithm of a
     /// directory's entries.
     pub fn inodes_without(&self, path: &Path) -> usize
+        requires { (n : List ℕ) → IsFree (at self.now (path.now ++ n ∷ [])) }
         ensures count { result ≡ inode_count (without self.now path.now) }
         ensures few { result ≤ self.now.most }
         ensures most { self.now.most ≤ most_inodes }
@@ -217,17 +219,16 @@ impl Layer {
         self.left(path).inodes
     }
 
-    /// What the layer takes where what stands at the path and below it is taken, and its paths where nothing but
-    /// whiteouts stands below it.
+    /// What the layer takes where what stands at the path and the whiteouts in it are taken.
     pub(crate) fn left(&self, path: &Path) -> Totals
+        requires { IsClear self.now path.now }
         ensures inodes { result.inodes ≡ inode_count (without self.now path.now) }
         ensures blocks { result.blocks ≡ block_count (without self.now path.now) }
-        ensures paths { IsClear self.now path.now → result.paths ≡ path_count (without self.now path.now) }
+        ensures paths { result.paths ≡ path_count (without self.now path.now) }
         ensures few { result.inodes ≤ self.now.most }
         ensures path { IsPath path.now }
         ensures layer { IsLayer self.now }
     {
-        let _ = &self.is_layer;
         let node = self.at(path);
         let (dirs, whiteouts) = self.table.tally_inside(path.names(), node);
         let (files, freed) = self.last_body(path, node);
@@ -242,9 +243,10 @@ impl Layer {
     /// The inodes and the blocks that are left where the directory at the path and all below it is taken. A file or
     /// symlink goes where it has no name elsewhere (unlink(2)).
     ///
-    /// The condition is that a directory stands there. Takes memory as `inodes_without`. Cost: as `at`, and the number
-    /// of paths below it times the logarithm of a directory's entries, once more for each name there of a file that
-    /// has several.
+    /// The condition is that a directory stands there. Takes memory as `inodes_without`, and for a count of each file
+    /// with several names below it; it does without where that is refused. Cost: as `at`, and the number of paths below
+    /// it times the logarithm of a directory's entries and of these files; where memory is refused, once more for each
+    /// name there of a file that has several.
     pub fn left_without_tree(&self, path: &Path) -> (usize, u64)
         requires { IsDirAt (at self.now path.now) }
         ensures inodes { result.0 ≡ inode_count (without_tree self.now path.now) }
@@ -252,7 +254,6 @@ impl Layer {
         ensures fewer { result.0 + 1 ≤ inode_count self.now }
         ensures path { IsPath path.now }
     {
-        let _ = &self.is_layer;
         let node = self.at(path);
         let (dirs, whiteouts) = self.table.tally_inside(path.names(), node);
         let bound = self.totals.paths;
@@ -267,10 +268,10 @@ impl Layer {
     /// none where there is none.
     fn last_body(&self, path: &Path, node: Option<Node>) -> (usize, u64)
         requires node { node ≡ at self.now path.now }
+        requires layer { IsLayer self.now }
         ensures inodes { length (without self.now path.now).bodies + result.0 ≡ length self.now.bodies }
         ensures blocks { sum_by body_blocks (values_of (without self.now path.now).bodies) + result.1 ≡ sum_by body_blocks (values_of self.now.bodies) }
     {
-        let _ = &self.is_layer;
         let Some(number) = number_in(node) else {
             return (0, 0);
         };
@@ -288,7 +289,8 @@ impl Layer {
     ///
     /// Takes no memory. The cost is constant.
     pub fn blocks(&self) -> u64
-        ensures { result ≡ block_count self.now }
+        ensures count { result ≡ block_count self.now }
+        ensures layer { IsLayer self.now }
     {
         self.totals.blocks
     }
@@ -304,7 +306,9 @@ impl Layer {
     }
 
     /// The allocator that the layer keeps. The cost is constant.
-    pub fn alloc(&self) -> Global {
+    pub fn alloc(&self) -> Global
+        ensures layer { IsLayer self.now }
+    {
         self.table.alloc
     }
 
@@ -312,7 +316,8 @@ impl Layer {
     ///
     /// Takes memory as `inodes_without`. Cost: the number of paths, times the logarithm of a directory's entries.
     pub fn tally(&self) -> (usize, usize)
-        ensures { result ≡ (dir_count self.now, whiteout_count self.now) }
+        ensures counts { result ≡ (dir_count self.now, whiteout_count self.now) }
+        ensures layer { IsLayer self.now }
     {
         self.table.tally()
     }
@@ -330,7 +335,8 @@ impl Layer {
     ///
     /// Takes no memory. Cost: as `at`.
     pub fn has_parent(&self, path: &Path) -> bool
-        ensures { IsTrue result ↔ HasParent self.now path.now }
+        ensures parent { IsTrue result ↔ HasParent self.now path.now }
+        ensures path { IsPath path.now }
     {
         let names = path.names().len();
         if names == 0 {
@@ -379,7 +385,8 @@ impl Layer {
     /// Takes no memory. Cost: as `at`, and the directory's entries where one stands there, up to the first
     /// that is no whiteout.
     pub fn has_place(&self, path: &Path) -> bool
-        ensures { IsTrue result ↔ HasPlace self.now path.now }
+        ensures place { IsTrue result ↔ HasPlace self.now path.now }
+        ensures path { IsPath path.now }
     {
         if !self.has_parent(path) {
             return false;
@@ -407,14 +414,12 @@ impl Layer {
     pub fn can_move(&self, from: &Path, to: &Path) -> bool
         ensures { IsTrue result ↔ IsMovable self.now from.now to.now }
     {
-        let _ = &self.is_layer;
         if self.at(from).is_none() || !self.has_place(to) {
             return false;
         }
         if to.begins(from) || from.begins(to) {
             return false;
         }
-        let _ = to.names();
         self.has_short_paths(from, to)
     }
 

@@ -7,9 +7,9 @@ ghost use Rattle.smallvec.specs.SmallVec.{HasRoomFor};
 ghost use Rattle.snap_path.specs.Limits.{most_path_bytes};
 ghost use Rattle.snap_path.specs.Text.{Names, text_below};
 ghost use Rattle.snap_layer.specs.contracts.node.Node as node_contracts;
-ghost use Rattle.snap_layer.specs.Walk.{walk, entry_at, node_at, seen};
+ghost use Rattle.snap_layer.specs.Walk.{walk, entry_at, node_at, node_shown};
 ghost use Rattle.snap_layer.specs.Holds.{Holds, Holds-prop};
-ghost use Rattle.snap_layer.specs.Rows.{name_cmp, items_at, items_in, after, last_path, ahead, frame_text, frames_text, entered, entered_from, items_from, Passes};
+ghost use Rattle.snap_layer.specs.Rows.{name_cmp, items_at, items_in, items_above, last_path, ahead, frame_text, frames_text, frame_of, entered_from, items_from, Passes};
 
 use super::inode::{Inode, Target};
 use super::node::Node;
@@ -51,7 +51,7 @@ fn item_after<'a>(
     entries: &'a BTreeMap<Name, Target>,
     last: Option<&'a Name>,
 ) -> Option<(&'a Name, Target)>
-    ensures { MatchOption result (after (option_copied last.entry) entries.now.entries ≡ []) (λ i. after (option_copied last.entry) entries.now.entries ≡ (i.0.now, i.1) ∷ after (Some i.0.now) entries.now.entries) }
+    ensures { MatchOption result (items_above (option_copied last.entry) entries.now.entries ≡ []) (λ i. items_above (option_copied last.entry) entries.now.entries ≡ (i.0.now, i.1) ∷ items_above (Some i.0.now) entries.now.entries) }
 {
     let start = match last {
         Some(name) => Bound::Excluded(name),
@@ -69,7 +69,7 @@ fn first_after<'a>(
     key: usize,
     last: Option<&'a Name>,
 ) -> Option<(&'a Name, Target)>
-    ensures { MatchOption result (after (option_copied last.entry) (items_at slots.now key) ≡ []) (λ i. after (option_copied last.entry) (items_at slots.now key) ≡ (i.0.now, i.1) ∷ after (Some i.0.now) (items_at slots.now key)) }
+    ensures { MatchOption result (items_above (option_copied last.entry) (items_at slots.now key) ≡ []) (λ i. items_above (option_copied last.entry) (items_at slots.now key) ≡ (i.0.now, i.1) ∷ items_above (Some i.0.now) (items_at slots.now key)) }
 {
     match slots.get(key) {
         Some(Inode::Dir { entries, .. }) => item_after(entries, last),
@@ -98,14 +98,15 @@ fn advance<'a, const ROOM: usize>(
 ) -> Option<(&'a Name, Target)>
     requires text { text.old ≡ frames_text frames.old.items }
     requires small { text.old ≤ most_path_bytes }
+    requires room { length frames.old.items ≤ frames.old.capacity }
     ensures ahead { (p : Names)
         → MatchOption result (ahead slots.now p frames.old.items ≡ []) (λ i. ahead slots.now p frames.old.items ≡ (last_path p frames.new.items, i.1) ∷ ahead slots.now p frames.new.items) }
     ensures passes { IfSome result (λ i. Passes frames.old.items frames.new.items i.0.now) }
     ensures gone { IfNone result (frames.new.items ≡ []) }
     ensures text { text.new ≡ frames_text frames.new.items }
+    ensures room { length frames.new.items ≤ frames.new.capacity }
     ensures capacity { frames.new.capacity ≡ frames.old.capacity }
 {
-    let _ = frames.len();
     while let Some(frame) = frames.pop() {
         *text -= text_of(frame.last);
         if let Some((name, target)) = first_after(slots, frame.key, frame.last) {
@@ -124,7 +125,8 @@ fn advance<'a, const ROOM: usize>(
 /// Enters the inode that the target is.
 fn enter<const ROOM: usize>(frames: &mut Frames<'_, ROOM>, target: Target)
     requires { HasRoomFor frames.old 1 }
-    ensures items { frames.new.items ≡ frames.old.items ++ entered target }
+    ensures items { frames.new.items ≡ frames.old.items ++ frame_of target }
+    ensures room { length frames.new.items ≤ frames.new.capacity }
     ensures capacity { frames.new.capacity ≡ frames.old.capacity }
 {
     if let Target::Inode(key) = target {
@@ -174,6 +176,7 @@ fn enter_first<const ROOM: usize>(
     requires room { 1 ≤ frames.old.capacity }
     ensures frames { frames.new.items ≡ entered_from (walk (entry_at slots.now) root front.now) }
     ensures order { IsStrictlySortedBy name_cmp (keys_of (items_from slots.now (walk (entry_at slots.now) root front.now))) }
+    ensures room { length frames.new.items ≤ frames.new.capacity }
     ensures capacity { frames.new.capacity ≡ frames.old.capacity }
 {
     if let Some(target) = walk(slots, root, front) {
@@ -184,7 +187,7 @@ fn enter_first<const ROOM: usize>(
 
 /// The node of the target.
 pub(crate) fn node_of_target(slots: &Slab<Inode>, target: Target) -> Option<Node>
-    ensures { result ≡ seen (node_at slots.now) (Some target) }
+    ensures { result ≡ node_shown (node_at slots.now) (Some target) }
 {
     match target {
         Target::Whiteout => Some(Node::Whiteout),
@@ -219,14 +222,14 @@ pub(crate) struct Rows<'a, const ROOM: usize> {
 
 impl<'a, const ROOM: usize> Model for Rows<'a, ROOM> {
     ghost use Rattle.std.specs.FinMap as map;
-    ghost use Rattle.std.specs.Prelude.{◌≡◌, ◌≤◌};
+    ghost use Rattle.std.specs.Prelude.{◌≡◌, ◌≤◌, length};
     ghost use Rattle.snap_layer.specs.Rows.{Progress, last_path, ahead, spread, frames_text, IsWalk};
 
     ghost Value = { Progress };
 
     ghost view = { λ r. record { front = r.front.now; path = last_path r.front.now r.frames.items; rest = spread (map.entries r.tree.0) (ahead r.slots.now r.front.now r.frames.items) } };
 
-    ghost invariant = { λ r. IsWalk r.slots.now r.root (map.entries r.tree.0) r.front.now r.frames.items × (r.text ≡ frames_text r.frames.items) × (ROOM ≤ r.frames.capacity) };
+    ghost invariant = { λ r. IsWalk r.slots.now r.root (map.entries r.tree.0) r.front.now r.frames.items × (r.text ≡ frames_text r.frames.items) × (ROOM ≤ r.frames.capacity) × (length r.frames.items ≤ r.frames.capacity) };
 }
 
 impl<'a, const ROOM: usize> Rows<'a, ROOM> {

@@ -3,7 +3,7 @@ ghost use Rattle.snap_layer.specs.Layers.{IsLayer};
 
 use super::layer::Layer;
 use snap_path::NoMemory;
-use std::alloc::{AllocError, Global};
+use std::alloc::AllocError;
 use std::marker::Model;
 use std::sync::Arc;
 
@@ -11,16 +11,11 @@ use std::sync::Arc;
 #[derive(Debug)]
 pub struct Shared {
     layer: Arc<Layer>,
-    /// Nothing, as `Layer::is_layer`: it tells a proof that the shared layer is one by `IsLayer`.
-    pub is_layer: (),
 }
 
 impl Drop for Shared {
     fn drop(self) {
-        let Shared {
-            layer: _,
-            is_layer: _,
-        } = self;
+        let Shared { layer: _ } = self;
     }
 }
 
@@ -37,17 +32,14 @@ impl Model for Shared {
 }
 
 impl Shared {
-    /// The layer, to be shared. Where memory is refused it comes back unchanged. The cost is constant.
-    pub fn new(alloc: Global, layer: Layer) -> Result<Shared, (NoMemory, Layer)>
+    /// The layer, to be shared, in memory of its own allocator. Where that is refused it comes back unchanged. The cost
+    /// is constant.
+    pub fn new(layer: Layer) -> Result<Shared, (NoMemory, Layer)>
         ensures ok { IfOk result (λ s. s ≡ layer) }
         ensures err { IfErr result (λ back. back.1 ≡ layer) }
     {
-        let _ = &layer.is_layer;
-        match Arc::new(alloc, layer) {
-            Ok(layer) => Ok(Shared {
-                layer,
-                is_layer: (),
-            }),
+        match Arc::new(layer.alloc(), layer) {
+            Ok(layer) => Ok(Shared { layer }),
             Err(failed) => Err(NoMemory::with_value(failed)),
         }
     }
@@ -58,7 +50,6 @@ impl Shared {
     {
         Ok(Shared {
             layer: self.layer.clone()?,
-            is_layer: (),
         })
     }
 

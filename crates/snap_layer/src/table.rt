@@ -6,6 +6,7 @@ ghost use Rattle.snap_path.specs.Limits.{most_mode, most_number};
 ghost use Rattle.snap_layer.specs.Tree.{Tree, at, body, number_at, IsDirAt, leaf_node};
 ghost use Rattle.snap_layer.specs.Counts.{name_count, body_blocks, most_inodes};
 ghost use Rattle.snap_layer.specs.Contents.{body_content, body_edited, Grows, IsShort};
+ghost use Rattle.snap_path.specs.Text.{IsPath};
 ghost use Rattle.snap_layer.specs.Layers.{IsLayer, IsFile};
 ghost use Rattle.snap_layer.specs.Edits.{root_within, with_body, with_entry, with_node, with_new, without, with_moved, with_file_mode, with_linked, HasPlace, HasRooms, IsTakeable, IsFree, HasParent, IsMovable};
 ghost use Rattle.snap_layer.specs.declared.node.Body.{Body as BodyValue};
@@ -106,7 +107,8 @@ impl Table {
 
     /// What stands at the path.
     pub fn at(&self, path: &Path) -> Option<Node>
-        ensures { result ≡ at self.now path.now }
+        ensures node { result ≡ at self.now path.now }
+        ensures path { IsPath path.now }
     {
         stands(&self.slots, self.root, path.names())
     }
@@ -170,7 +172,6 @@ impl Table {
         ensures ok { OnOk result (self.new ≡ with_entry self.old path.now (Node.Dir mode opaque)) }
         ensures err { OnErr result (self.new ≡ self.old) }
     {
-        let _ = &self.slots;
         let (dir, name) = parent_at(&self.slots, self.root, path);
         let inode = Inode::Dir {
             mode,
@@ -211,7 +212,6 @@ impl Table {
         ensures sure { OnErr result (at self.old path.now ≡ None) }
         ensures err { OnErr result (self.new ≡ self.old) }
     {
-        let _ = &self.slots;
         let (dir, name) = parent_at(&self.slots, self.root, path);
         let Some(key) = place_of(&self.places, number) else {
             unreachable!()
@@ -242,15 +242,14 @@ impl Table {
     /// there, if one did.
     fn take_back(&mut self, path: &Path, covers: bool)
         requires new { (u : Tree) × IsNew covers path.now self.old u }
+        requires layer { IsLayer self.old }
         ensures { (u : Tree) → IsNew covers path.now self.old u → self.new ≡ u }
     {
-        let _ = self.next_number();
         if covers {
             let _ = self.whiteout(path);
         } else {
             self.take(path);
         }
-        let _ = self.next_number();
         self.give_back_number();
     }
 
@@ -271,7 +270,6 @@ impl Table {
         ensures sure { OnErr result (at self.old path.now ≡ None) }
         ensures err { OnErr result (self.new ≡ self.old) }
     {
-        let _ = &self.slots;
         let (dir, name) = parent_at(&self.slots, self.root, path);
         cover(&mut self.slots, &mut self.places, dir, name)
     }
@@ -283,7 +281,6 @@ impl Table {
         requires layer { IsLayer (without self.old path.now) }
         ensures { self.new ≡ without self.old path.now }
     {
-        let _ = &self.slots;
         let (dir, name) = parent_at(&self.slots, self.root, path);
         take_target(&mut self.slots, &mut self.places, dir, name);
     }
@@ -296,7 +293,6 @@ impl Table {
         ensures sure { OnErr result (at self.old to.now ≡ None) }
         ensures err { OnErr result (self.new ≡ self.old) }
     {
-        let _ = &self.slots;
         let (left, old) = parent_at(&self.slots, self.root, from);
         let (gained, new) = parent_at(&self.slots, self.root, to);
         let Some(target) = entry_at(&self.slots, left, old) else {
@@ -320,7 +316,6 @@ impl Table {
         requires layer { IsLayer (with_entry self.old path.now (Node.Dir mode opaque)) }
         ensures { self.new ≡ with_entry self.old path.now (Node.Dir mode opaque) }
     {
-        let _ = &self.slots;
         let dir = dir_at(&self.slots, self.root, path.names());
         set_dir(&mut self.slots, dir, mode, opaque);
     }
@@ -331,7 +326,6 @@ impl Table {
         requires mode { mode ≤ most_mode }
         ensures { self.new ≡ with_file_mode self.old number (body self.old number) mode }
     {
-        let _ = &self.slots;
         let Some(key) = place_of(&self.places, number) else {
             unreachable!()
         };
@@ -347,7 +341,6 @@ impl Table {
         ensures grows { OnErr result (Grows edit.entry (body_content (body self.old number))) }
         ensures err { OnErr result (self.new ≡ self.old) }
     {
-        let _ = &self.slots;
         let Some(key) = place_of(&self.places, number) else {
             unreachable!()
         };
@@ -361,7 +354,6 @@ impl Table {
         requires layer { IsLayer (with_body self.old number new) }
         ensures { self.new ≡ with_body self.old number new }
     {
-        let _ = &self.slots;
         let Some(key) = place_of(&self.places, number) else {
             unreachable!()
         };

@@ -12,7 +12,7 @@ use Rattle.snap_counts.specs.Counts.{count_within}
 use Rattle.snap_lease.specs.Index.{AreNameCounts, IsRecounted, NameCounts}
 use Rattle.snap_lease.specs.Lease.{Lease, is_of, is_lease, does_name, without_lease_name, NamesOnce}
 use Rattle.snap_lease.specs.Leases.{AreDistinct, CountsDropped, guards, has_lease, lease_names, naming_count, with_name_dropped}
-use Rattle.snap_lease.specs.Numbers.{AreNumbers, LeaseIndex, number_in, number_of}
+use Rattle.snap_lease.specs.Numbers.{AreNumbers, LeaseIndex, number_in, lease_number}
 use Rattle.snap_lease.proofs.CountLemmas.{bytes_eq-other, count_by-agree, count_by-list_any, count_by-map, is_of-is_lease, is_of-other, lease_names-at}
 use Rattle.snap_lease.proofs.IndexLemmas.{one_if}
 use Rattle.snap_lease.proofs.ListLemmas.{all-filter, filter-none, has_lease-after, map-none}
@@ -229,7 +229,7 @@ module _ (namespace lease name : List ℕ) (n : ℕ) (es new : List (ℕ × Leas
 
   pub numbers-dropped : (index : LeaseIndex) → lookup (is_at (nat_cmp n)) es ≡ Some entry → AreNumbers es index → AreNumbers new index
   numbers-dropped index there are space q =
-      are space q ∙ sym (number_of-set space q (is_at (nat_cmp n)) entry w (ap (is_lease space q) is) es there) ∙ ap (number_of space q) (sym writes)
+      are space q ∙ sym (number_of-set space q (is_at (nat_cmp n)) entry w (ap (is_lease space q) is) es there) ∙ ap (lease_number space q) (sym writes)
 
 -- what the lease at a number names
 pub lease_names_at_number : (es : List (ℕ × Lease)) (ls : List Lease) (index : LeaseIndex) (namespace lease name : List ℕ) (n : ℕ) (entry : Lease)

@@ -8,7 +8,7 @@ use Rattle.std.specs.String.{string_eq}
 use Rattle.indexmap.specs.IndexMap.{insert_entry}
 use Rattle.std.proofs.lemmas.Slice.Eq.{bytes_eq-Decides}
 use Rattle.snap_lease.specs.Lease.{Lease, does_name, with_lease_name}
-use Rattle.snap_lease.specs.Live.{is_among, with_name}
+use Rattle.snap_lease.specs.Live.{is_among, with_added_name}
 
 -- a test of each element of a mapped list
 pub list_any-map : {X Y : Type 0} (p : Y → Bool) (f : X → Y) (xs : List X) → list_any p (map f xs) ≡ list_any (λ x. p (f x)) xs
@@ -60,7 +60,7 @@ with_name-inserted name l es new k v absent seen is inserted =
 
 -- the names after a new key is inserted
 pub names-inserted : {Z X : Type 0} (name : List ℕ) (names : List (List ℕ)) (es new : List (String Z × X)) (k : String Z) (v : X)
-    → is_among name names ≡ false → names ≡ map string_bytes (keys_of es) → string_bytes k ≡ name → new ≡ insert_entry string_eq es k v → map string_bytes (keys_of new) ≡ with_name name names
+    → is_among name names ≡ false → names ≡ map string_bytes (keys_of es) → string_bytes k ≡ name → new ≡ insert_entry string_eq es k v → map string_bytes (keys_of new) ≡ with_added_name name names
 names-inserted name names es new k v absent seen is inserted =
     let lacks : list_any (bytes_eq (string_bytes k)) (map string_bytes (keys_of es)) ≡ false = ap (λ n. list_any (bytes_eq n) (map string_bytes (keys_of es))) is ∙ ap (list_any (bytes_eq name)) (sym seen) ∙ absent in
     let grown : map string_bytes (keys_of new) ≡ names ++ name ∷ [] = ap (λ e. map string_bytes (keys_of e)) inserted ∙ names-insert_entry k v es lacks ∙ ap (λ ns. ns ++ string_bytes k ∷ []) (sym seen) ∙ ap (λ n. names ++ n ∷ []) is in
@@ -80,7 +80,7 @@ list_any-push p [] x = or_none (p x)
 list_any-push p (y ∷ ys) x = ap (λ b. p y || b) (list_any-push p ys x) ∙ or_joined (p y) (list_any p ys) (p x)
 
 -- what is among the names with one more
-pub is_among-with_name : (name new : List ℕ) (names : List (List ℕ)) → is_among name (with_name new names) ≡ (is_among name names || bytes_eq name new)
+pub is_among-with_name : (name new : List ℕ) (names : List (List ℕ)) → is_among name (with_added_name new names) ≡ (is_among name names || bytes_eq name new)
 is_among-with_name name new names = by (is_among new names) refl
   where
     same : (b : Bool) → bytes_eq name new ≡ b → is_among new names ≡ true → is_among name names ≡ (is_among name names || b)
@@ -92,6 +92,6 @@ is_among-with_name name new names = by (is_among new names) refl
     by false there = list_any-push (bytes_eq name) names new
 
 -- what is among the names of a set and the first names of a list
-pub among_more : (name new : List ℕ) (set names : List (List ℕ)) (b : Bool) → is_among name set ≡ (b || is_among name names) → is_among name (with_name new set) ≡ (b || is_among name (names ++ new ∷ []))
+pub among_more : (name new : List ℕ) (set names : List (List ℕ)) (b : Bool) → is_among name set ≡ (b || is_among name names) → is_among name (with_added_name new set) ≡ (b || is_among name (names ++ new ∷ []))
 among_more name new set names b before =
     is_among-with_name name new set ∙ ap (λ a. a || bytes_eq name new) before ∙ sym (or_joined b (is_among name names) (bytes_eq name new)) ∙ ap (λ a. b || a) (sym (list_any-push (bytes_eq name) names new))

@@ -20,7 +20,7 @@ use Rattle.snap_counts.specs.Counts.{by_bytes, count_within}
 use Rattle.snap_lease.specs.Index.{IsUncounted, NameCounts}
 use Rattle.snap_lease.specs.Lease.{Lease, empty_lease, is_lease, with_lease_name}
 use Rattle.snap_lease.specs.Leases.{AreDistinct, guards, has_lease, with_name_added, without_lease}
-use Rattle.snap_lease.specs.Numbers.{AreNumbers, AreUnnumbered, LeaseIndex, index_of, number_in, number_of}
+use Rattle.snap_lease.specs.Numbers.{AreNumbers, AreUnnumbered, LeaseIndex, index_of, number_in, lease_number}
 use Rattle.snap_lease.proofs.LeaseLemmas.{list_any-map}
 use Rattle.snap_lease.proofs.ListLemmas.{bytes_eq_comm, filter-none, has_lease-after, is_lease-parts, is_lease_comm, list_any-tail, set-with_name_added, with_name-name, with_name-namespace}
 
@@ -65,39 +65,39 @@ pub same_comm : (namespace lease space q : List ℕ) → (bytes_eq namespace spa
 same_comm namespace lease space q = ap (λ b. b && bytes_eq lease q) (bytes_eq_comm namespace space) ∙ ap (λ b. bytes_eq space namespace && b) (bytes_eq_comm lease q)
 
 module _ (space q : List ℕ) where
-  pub number_of-none : (es : List (ℕ × Lease)) → has_lease (values_of es) space q ≡ false → number_of space q es ≡ None
+  pub number_of-none : (es : List (ℕ × Lease)) → has_lease (values_of es) space q ≡ false → lease_number space q es ≡ None
   number_of-none [] none = refl
   number_of-none (e ∷ es) none =
       let both = list_any-tail (is_lease space q) e.1 (values_of es) none in
-      ap (λ b. cond b (Some e.0) (number_of space q es)) both.0 ∙ number_of-none es both.1
+      ap (λ b. cond b (Some e.0) (lease_number space q es)) both.0 ∙ number_of-none es both.1
 
-  pub has_number : (es : List (ℕ × Lease)) → is_some (number_of space q es) ≡ has_lease (values_of es) space q
+  pub has_number : (es : List (ℕ × Lease)) → is_some (lease_number space q es) ≡ has_lease (values_of es) space q
   has_number [] = refl
   has_number (e ∷ es) = by (is_lease space q e.1) (has_number es)
     where
-      by : (b : Bool) → is_some (number_of space q es) ≡ has_lease (values_of es) space q → is_some (cond b (Some e.0) (number_of space q es)) ≡ (b || has_lease (values_of es) space q)
+      by : (b : Bool) → is_some (lease_number space q es) ≡ has_lease (values_of es) space q → is_some (cond b (Some e.0) (lease_number space q es)) ≡ (b || has_lease (values_of es) space q)
       by true rest = refl
       by false rest = rest
 
   -- the lease that a test of the numbers finds is written anew, with its namespace and its name
-  pub number_of-set : (t : ℕ → Bool) (old w : Lease) → is_lease space q w ≡ is_lease space q old → (es : List (ℕ × Lease)) → lookup t es ≡ Some old → number_of space q (set_value t es w) ≡ number_of space q es
+  pub number_of-set : (t : ℕ → Bool) (old w : Lease) → is_lease space q w ≡ is_lease space q old → (es : List (ℕ × Lease)) → lookup t es ≡ Some old → lease_number space q (set_value t es w) ≡ lease_number space q es
   number_of-set t old w same [] found = refl
   number_of-set t old w same (e ∷ es) found = by (t e.0) found (number_of-set t old w same es)
     where
-      by : (b : Bool) → cond b (Some e.1) (lookup t es) ≡ Some old → (lookup t es ≡ Some old → number_of space q (set_value t es w) ≡ number_of space q es)
-          → number_of space q (cond b ((e.0, w) ∷ es) (e ∷ set_value t es w)) ≡ number_of space q (e ∷ es)
-      by true here rest = let is : old ≡ e.1 = cc in ap (λ b. cond b (Some e.0) (number_of space q es)) (same ∙ ap (is_lease space q) is)
+      by : (b : Bool) → cond b (Some e.1) (lookup t es) ≡ Some old → (lookup t es ≡ Some old → lease_number space q (set_value t es w) ≡ lease_number space q es)
+          → lease_number space q (cond b ((e.0, w) ∷ es) (e ∷ set_value t es w)) ≡ lease_number space q (e ∷ es)
+      by true here rest = let is : old ≡ e.1 = cc in ap (λ b. cond b (Some e.0) (lease_number space q es)) (same ∙ ap (is_lease space q) is)
       by false later rest = ap (cond (is_lease space q e.1) (Some e.0)) (rest later)
 
   -- a lease that is new goes last
-  pub number_of-push : (n : ℕ) (l : Lease) (es : List (ℕ × Lease)) → has_lease (values_of es) l.namespace l.name ≡ false → number_of space q (es ++ (n, l) ∷ []) ≡ cond (is_lease space q l) (Some n) (number_of space q es)
+  pub number_of-push : (n : ℕ) (l : Lease) (es : List (ℕ × Lease)) → has_lease (values_of es) l.namespace l.name ≡ false → lease_number space q (es ++ (n, l) ∷ []) ≡ cond (is_lease space q l) (Some n) (lease_number space q es)
   number_of-push n l [] absent = refl
   number_of-push n l (e ∷ es) absent =
       let both = list_any-tail (is_lease l.namespace l.name) e.1 (values_of es) absent in
       by (is_lease space q e.1) refl both.0 (number_of-push n l es both.1)
     where
-      by : (b : Bool) → is_lease space q e.1 ≡ b → is_lease l.namespace l.name e.1 ≡ false → number_of space q (es ++ (n, l) ∷ []) ≡ cond (is_lease space q l) (Some n) (number_of space q es)
-          → cond b (Some e.0) (number_of space q (es ++ (n, l) ∷ [])) ≡ cond (is_lease space q l) (Some n) (cond b (Some e.0) (number_of space q es))
+      by : (b : Bool) → is_lease space q e.1 ≡ b → is_lease l.namespace l.name e.1 ≡ false → lease_number space q (es ++ (n, l) ∷ []) ≡ cond (is_lease space q l) (Some n) (lease_number space q es)
+          → cond b (Some e.0) (lease_number space q (es ++ (n, l) ∷ [])) ≡ cond (is_lease space q l) (Some n) (cond b (Some e.0) (lease_number space q es))
       by true is other rest =
           let parts = is_lease-parts space q e.1 is in
           let apart : is_lease space q l ≡ false = ap (λ s. is_lease s q l) parts.0 ∙ ap (λ m. is_lease e.1.namespace m l) parts.1 ∙ is_lease_comm e.1 l ∙ other in
@@ -106,10 +106,10 @@ module _ (space q : List ℕ) where
 
   -- the namespace's lease of a name goes
   pub number_of-without : (namespace lease : List ℕ) (es : List (ℕ × Lease))
-      → number_of space q (filter (λ e. not (is_lease namespace lease e.1)) es) ≡ cond (bytes_eq space namespace && bytes_eq q lease) None (number_of space q es)
+      → lease_number space q (filter (λ e. not (is_lease namespace lease e.1)) es) ≡ cond (bytes_eq space namespace && bytes_eq q lease) None (lease_number space q es)
   number_of-without namespace lease [] = by (bytes_eq space namespace && bytes_eq q lease)
     where
-      by : (b : Bool) → number_of space q [] ≡ cond b None (number_of space q [])
+      by : (b : Bool) → lease_number space q [] ≡ cond b None (lease_number space q [])
       by true = refl
       by false = refl
   number_of-without namespace lease (e ∷ es) = by (is_lease namespace lease e.1) (is_lease space q e.1) refl refl (number_of-without namespace lease es)
@@ -119,13 +119,13 @@ module _ (space q : List ℕ) where
       both s false same o p is = is
 
       by : (a b : Bool) → is_lease namespace lease e.1 ≡ a → is_lease space q e.1 ≡ b
-          → number_of space q (filter (λ e. not (is_lease namespace lease e.1)) es) ≡ cond (bytes_eq space namespace && bytes_eq q lease) None (number_of space q es)
-          → number_of space q (cond (not a) (e ∷ filter (λ e. not (is_lease namespace lease e.1)) es) (filter (λ e. not (is_lease namespace lease e.1)) es)) ≡ cond (bytes_eq space namespace && bytes_eq q lease) None (cond b (Some e.0) (number_of space q es))
-      by true b gone is rest = both (bytes_eq space namespace && bytes_eq q lease) b (sym (is_lease-same namespace lease space q e.1 gone) ∙ is) _ (number_of space q es) rest
+          → lease_number space q (filter (λ e. not (is_lease namespace lease e.1)) es) ≡ cond (bytes_eq space namespace && bytes_eq q lease) None (lease_number space q es)
+          → lease_number space q (cond (not a) (e ∷ filter (λ e. not (is_lease namespace lease e.1)) es) (filter (λ e. not (is_lease namespace lease e.1)) es)) ≡ cond (bytes_eq space namespace && bytes_eq q lease) None (cond b (Some e.0) (lease_number space q es))
+      by true b gone is rest = both (bytes_eq space namespace && bytes_eq q lease) b (sym (is_lease-same namespace lease space q e.1 gone) ∙ is) _ (lease_number space q es) rest
       by false true stays is rest =
           let apart : (bytes_eq space namespace && bytes_eq q lease) ≡ false = sym (same_comm namespace lease space q) ∙ sym (is_lease-same space q namespace lease e.1 is) ∙ stays in
-          ap (λ x. cond x (Some e.0) (number_of space q (filter (λ e. not (is_lease namespace lease e.1)) es))) is ∙ sym (ap (λ x. cond x None (Some e.0)) apart)
-      by false false stays is rest = ap (λ x. cond x (Some e.0) (number_of space q (filter (λ e. not (is_lease namespace lease e.1)) es))) is ∙ rest
+          ap (λ x. cond x (Some e.0) (lease_number space q (filter (λ e. not (is_lease namespace lease e.1)) es))) is ∙ sym (ap (λ x. cond x None (Some e.0)) apart)
+      by false false stays is rest = ap (λ x. cond x (Some e.0) (lease_number space q (filter (λ e. not (is_lease namespace lease e.1)) es))) is ∙ rest
 
   and_none : (b : Bool) → (b && false) ≡ false
   and_none true = refl
@@ -139,7 +139,7 @@ module _ (space q : List ℕ) where
 
   -- the leases that pass a test go
   pub number_of-filter : (test : Lease → Bool) (es : List (ℕ × Lease)) → AreDistinct (values_of es)
-      → number_of space q (filter (λ e. not (test e.1)) es) ≡ cond (list_any (λ l. test l && is_lease space q l) (values_of es)) None (number_of space q es)
+      → lease_number space q (filter (λ e. not (test e.1)) es) ≡ cond (list_any (λ l. test l && is_lease space q l) (values_of es)) None (lease_number space q es)
   number_of-filter test [] distinct = refl
   number_of-filter test (e ∷ es) distinct = by (test e.1) (is_lease space q e.1) refl (number_of-filter test es distinct.1)
     where
@@ -151,14 +151,14 @@ module _ (space q : List ℕ) where
       either false o none = none
 
       by : (a b : Bool) → is_lease space q e.1 ≡ b
-          → number_of space q (filter (λ e. not (test e.1)) es) ≡ cond some None (number_of space q es)
-          → number_of space q (cond (not a) (e ∷ filter (λ e. not (test e.1)) es) (filter (λ e. not (test e.1)) es)) ≡ cond ((a && b) || some) None (cond b (Some e.0) (number_of space q es))
-      by true true is rest = rest ∙ either some (number_of space q es) (number_of-none es (has_lease-after space q e.1 (values_of es) distinct is))
+          → lease_number space q (filter (λ e. not (test e.1)) es) ≡ cond some None (lease_number space q es)
+          → lease_number space q (cond (not a) (e ∷ filter (λ e. not (test e.1)) es) (filter (λ e. not (test e.1)) es)) ≡ cond ((a && b) || some) None (cond b (Some e.0) (lease_number space q es))
+      by true true is rest = rest ∙ either some (lease_number space q es) (number_of-none es (has_lease-after space q e.1 (values_of es) distinct is))
       by true false is rest = rest
       by false true is rest =
           let none : some ≡ false = any-and test (is_lease space q) (values_of es) (has_lease-after space q e.1 (values_of es) distinct is) in
-          ap (λ x. cond x (Some e.0) (number_of space q (filter (λ e. not (test e.1)) es))) is ∙ sym (ap (λ x. cond x None (Some e.0)) none)
-      by false false is rest = ap (λ x. cond x (Some e.0) (number_of space q (filter (λ e. not (test e.1)) es))) is ∙ rest
+          ap (λ x. cond x (Some e.0) (lease_number space q (filter (λ e. not (test e.1)) es))) is ∙ sym (ap (λ x. cond x None (Some e.0)) none)
+      by false false is rest = ap (λ x. cond x (Some e.0) (lease_number space q (filter (λ e. not (test e.1)) es))) is ∙ rest
 
 -- what was put at a lease that had no number was taken back
 pub number_back : (same : Bool) (n : ℕ) (before during after : Option ℕ) → (same ≡ true → before ≡ None) → during ≡ cond same (Some n) before → after ≡ cond same None during → after ≡ before
@@ -184,22 +184,22 @@ module _ (namespace lease : List ℕ) (n : ℕ) where
       let both = list_any-tail (is_lease namespace lease) e.1 (values_of es) none in
       (ap is_eq above.0 ∙ sym both.0, agree-after es above.1 both.1)
 
-  number-above : (k : ℕ) (es : List (ℕ × Lease)) → AllByRecursion (λ i. nat_cmp k i ≡ Less) (keys_of es) → number_of namespace lease es ≡ Some n → nat_cmp k n ≡ Less
+  number-above : (k : ℕ) (es : List (ℕ × Lease)) → AllByRecursion (λ i. nat_cmp k i ≡ Less) (keys_of es) → lease_number namespace lease es ≡ Some n → nat_cmp k n ≡ Less
   number-above k [] above found = cc
   number-above k (e ∷ es) above found = by (is_lease namespace lease e.1) found (number-above k es above.1)
     where
-      by : (b : Bool) → cond b (Some e.0) (number_of namespace lease es) ≡ Some n → (number_of namespace lease es ≡ Some n → nat_cmp k n ≡ Less) → nat_cmp k n ≡ Less
+      by : (b : Bool) → cond b (Some e.0) (lease_number namespace lease es) ≡ Some n → (lease_number namespace lease es ≡ Some n → nat_cmp k n ≡ Less) → nat_cmp k n ≡ Less
       by true here rest = let same : n ≡ e.0 = cc in ap (nat_cmp k) same ∙ above.0
       by false later rest = rest later
 
   -- the lease's number leads to that lease alone
-  pub numbered : (es : List (ℕ × Lease)) → IsStrictlySortedBy nat_cmp (keys_of es) → AreDistinct (values_of es) → number_of namespace lease es ≡ Some n → Agree (is_at (nat_cmp n)) (is_lease namespace lease) es
+  pub numbered : (es : List (ℕ × Lease)) → IsStrictlySortedBy nat_cmp (keys_of es) → AreDistinct (values_of es) → lease_number namespace lease es ≡ Some n → Agree (is_at (nat_cmp n)) (is_lease namespace lease) es
   unfolding IsStrictlySortedBy
   numbered [] sorted distinct found = tt
   numbered (e ∷ es) sorted distinct found = by (is_lease namespace lease e.1) refl found (numbered es sorted.1 distinct.1)
     where
-      by : (b : Bool) → is_lease namespace lease e.1 ≡ b → cond b (Some e.0) (number_of namespace lease es) ≡ Some n
-          → (number_of namespace lease es ≡ Some n → Agree (is_at (nat_cmp n)) (is_lease namespace lease) es) → Agree (is_at (nat_cmp n)) (is_lease namespace lease) (e ∷ es)
+      by : (b : Bool) → is_lease namespace lease e.1 ≡ b → cond b (Some e.0) (lease_number namespace lease es) ≡ Some n
+          → (lease_number namespace lease es ≡ Some n → Agree (is_at (nat_cmp n)) (is_lease namespace lease) es) → Agree (is_at (nat_cmp n)) (is_lease namespace lease) (e ∷ es)
       by true is here rest =
           let same : e.0 ≡ n = cc in (
             ap (λ k. is_eq (nat_cmp n k)) same ∙ ap is_eq (tied_itself nat_cmp_total n) ∙ sym is,
@@ -209,12 +209,12 @@ module _ (namespace lease : List ℕ) (n : ℕ) where
 
 module _ (t : ℕ → Bool) where
   -- it is found
-  pub lookup-number : (namespace lease : List ℕ) (es : List (ℕ × Lease)) → Agree t (is_lease namespace lease) es → is_some (lookup t es) ≡ is_some (number_of namespace lease es)
+  pub lookup-number : (namespace lease : List ℕ) (es : List (ℕ × Lease)) → Agree t (is_lease namespace lease) es → is_some (lookup t es) ≡ is_some (lease_number namespace lease es)
   lookup-number namespace lease [] agree = refl
   lookup-number namespace lease (e ∷ es) agree =
       ap (λ b. is_some (cond b (Some e.1) (lookup t es))) agree.0 ∙ by (is_lease namespace lease e.1) (lookup-number namespace lease es agree.1)
     where
-      by : (b : Bool) → is_some (lookup t es) ≡ is_some (number_of namespace lease es) → is_some (cond b (Some e.1) (lookup t es)) ≡ is_some (cond b (Some e.0) (number_of namespace lease es))
+      by : (b : Bool) → is_some (lookup t es) ≡ is_some (lease_number namespace lease es) → is_some (cond b (Some e.1) (lookup t es)) ≡ is_some (cond b (Some e.0) (lease_number namespace lease es))
       by true rest = refl
       by false rest = rest
 
@@ -388,7 +388,7 @@ module _ (es : List (ℕ × Lease)) where
         → ((space q : List ℕ) → number_in space q after ≡ cond (bytes_eq space namespace && bytes_eq q lease) (Some n) (number_in space q before)) → AreNumbers (es ++ (n, l) ∷ []) after
     numbers-created namespace lease until n l is absent are put space q =
         put space q ∙ ap (cond (bytes_eq space namespace && bytes_eq q lease) (Some n)) (are space q)
-        ∙ ap (λ k. cond (is_lease space q k) (Some n) (number_of space q es)) (sym is)
+        ∙ ap (λ k. cond (is_lease space q k) (Some n) (lease_number space q es)) (sym is)
         ∙ sym (number_of-push space q n l es (ap (λ (k : Lease). has_lease (values_of es) k.namespace k.name) is ∙ absent))
 
     -- the number of a lease that is not there was put and taken back
@@ -397,7 +397,7 @@ module _ (es : List (ℕ × Lease)) where
         → ((space q : List ℕ) → number_in space q after ≡ cond (bytes_eq space namespace && bytes_eq q lease) None (number_in space q during)) → AreNumbers es after
     numbers-back during namespace lease n absent are put taken space q =
         number_back (bytes_eq space namespace && bytes_eq q lease) n (number_in space q before) (number_in space q during) (number_in space q after)
-        (λ same. let parts = both_same space namespace q lease same in are space q ∙ ap (λ s. number_of s q es) parts.0 ∙ ap (λ m. number_of namespace m es) parts.1 ∙ number_of-none namespace lease es absent)
+        (λ same. let parts = both_same space namespace q lease same in are space q ∙ ap (λ s. lease_number s q es) parts.0 ∙ ap (λ m. lease_number namespace m es) parts.1 ∙ number_of-none namespace lease es absent)
         (put space q) (taken space q) ∙ are space q
 
     pub numbers-released : (namespace lease : List ℕ) → AreNumbers es before
@@ -426,7 +426,7 @@ module _ (namespace lease name : List ℕ) (n : ℕ) (es new : List (ℕ × Leas
 
   pub numbers-added : (index : LeaseIndex) → lookup (is_at (nat_cmp n)) es ≡ Some entry → AreNumbers es index → AreNumbers new index
   numbers-added index there are space q =
-      are space q ∙ sym (number_of-set space q (is_at (nat_cmp n)) entry w (ap (is_lease space q) is ∙ is_lease-with_name space q name entry) es there) ∙ ap (number_of space q) (sym writes)
+      are space q ∙ sym (number_of-set space q (is_at (nat_cmp n)) entry w (ap (is_lease space q) is ∙ is_lease-with_name space q name entry) es there) ∙ ap (lease_number space q) (sym writes)
 
 -- ---- the leases ahead of a walk
 

@@ -1,5 +1,4 @@
 -- The counts that `Leases` keeps beside its list: how many leases of a namespace have a name.
--- Cited by invariants and private clauses alone.
 use Rattle.std.specs.Prelude.{◌≡◌, ℕ, ◌+◌, ◌-◌, Bool, List, count_by, ◌&&◌, if◌then◌else◌}
 use Rattle.snap_counts.specs.Counts.{count_within}
 use Rattle.snap_lease.specs.Lease.{Lease}

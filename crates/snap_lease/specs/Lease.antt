@@ -1,5 +1,4 @@
 -- What a lease is, and what is asked of one lease. Texts are their bytes.
--- Cited by `Leases::has`, `Leases::create`, `Leases::add` and others.
 use Rattle.std.specs.Prelude.{ℕ, Bool, true, not, List, [], ◌∷◌, ◌++◌, filter, Option, nat_le, ◌&&◌, if◌then◌else◌}
 use Rattle.std.specs.List.{list_any, IsDistinct}
 use Rattle.std.specs.Option.{option_map_or}

@@ -1,5 +1,4 @@
 -- The leases of all namespaces, in the order in which they were created.
--- Cited by `Leases::has`, `Leases::create`, `Leases::add` and others.
 use Rattle.std.specs.Prelude.{◌≡◌, ◌≢◌, ℕ, ◌+◌, Bool, false, not, List, [], ◌∷◌, Option, map, filter, find, count_by, ◌&&◌, if◌then◌else◌}
 use Rattle.std.specs.List.{list_any}
 use Rattle.std.specs.Option.{option_map}

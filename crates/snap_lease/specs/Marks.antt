@@ -1,5 +1,4 @@
 -- What one walk does to the set of places to be swept. True at a place means that it is still in the set.
--- Cited by invariants and private clauses alone.
 use Rattle.std.specs.Prelude.{◌≡◌, ◌⊎◌, ℕ, Bool, true, false, List, Option, None, Some, slice_index_or}
 use Rattle.snap_lease.specs.Reach.{ancestor}
 

@@ -1,5 +1,4 @@
 -- How `Leases` keeps the leases: by numbers that rise in the order of creation, with an index of these numbers.
--- Cited by invariants and private clauses alone.
 use Rattle.std.specs.Prelude.{◌≡◌, ◌≢◌, ℕ, ◌+◌, ◌-◌, Bool, List, length, slice_get, IfSome, [], ◌∷◌, Option, None, Some, String, string_bytes, bytes_eq, cond, ◌&&◌, option_and_then}
 use Rattle.std.specs.BTreeMap.{BTreeMap, btree_map_len, get_by_text}
 use Rattle.std.specs.List.{list_any}
@@ -26,13 +25,13 @@ abbrev pub number_in : List ℕ → List ℕ → LeaseIndex → Option ℕ
 number_in space name index = option_and_then (lookup (bytes_eq name)) (lookup (bytes_eq space) index)
 
 -- as the leases have it
-abbrev pub number_of : List ℕ → List ℕ → List (ℕ × Lease) → Option ℕ
-number_of space name [] = None
-number_of space name (e ∷ es) = cond (is_lease space name e.1) (Some e.0) (number_of space name es)
+abbrev pub lease_number : List ℕ → List ℕ → List (ℕ × Lease) → Option ℕ
+lease_number space name [] = None
+lease_number space name (e ∷ es) = cond (is_lease space name e.1) (Some e.0) (lease_number space name es)
 
 -- the index has the number of each lease, and no other
 abbrev pub AreNumbers : List (ℕ × Lease) → LeaseIndex → Type 0
-AreNumbers es index = (space name : List ℕ) → number_in space name index ≡ number_of space name es
+AreNumbers es index = (space name : List ℕ) → number_in space name index ≡ lease_number space name es
 
 -- the number of the next lease: one above the last, and 0 where there is none
 abbrev pub next_number : List (ℕ × Lease) → ℕ

@@ -1,5 +1,4 @@
 -- What is reached from a root along parents. A place is an index into the lists.
--- Cited by `sweep_set`.
 use Rattle.std.specs.Prelude.{◌≡◌, ℕ, zero, suc, ◌<◌, ◌↔◌, Bool, true, false, List, Option, None, Some, length, slice_get, slice_index_or, option_and_then}
 
 -- the place that lies n parents above, if there is one

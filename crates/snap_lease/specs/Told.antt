@@ -1,5 +1,4 @@
 -- What is told of leases.
--- Cited by `Leases::infos`, `Leases::info`, `pibroulez_run` and others.
 use Rattle.std.specs.Prelude.{ℕ, List, Option, map, filter, find}
 use Rattle.std.specs.Option.{option_map}
 use Rattle.snap_lease.specs.Lease.{Lease, is_of, is_lease}

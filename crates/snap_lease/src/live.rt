@@ -1,6 +1,6 @@
 //! The names that live leases have, as a set.
 ghost use Rattle.std.specs.Prelude.{◌≡◌, [], OnOk};
-ghost use Rattle.snap_lease.specs.Live.{is_among, with_name};
+ghost use Rattle.snap_lease.specs.Live.{is_among, with_added_name};
 
 use indexmap::IndexMap;
 use std::alloc::{AllocError, Global};
@@ -40,7 +40,7 @@ impl LiveNames {
 
     /// Puts a copy of the name last. A name that is there already takes no memory.
     pub(crate) fn add(&mut self, alloc: Global, name: &str) -> Result<(), AllocError>
-        ensures { OnOk result (self.new ≡ with_name name.now self.old) }
+        ensures { OnOk result (self.new ≡ with_added_name name.now self.old) }
     {
         if self.has(name) {
             return Ok(());

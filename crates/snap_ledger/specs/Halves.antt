@@ -1,5 +1,4 @@
 -- What the seats of a table know of slots, charges and shares, and the rule over all of them.
--- Cited by invariants and private clauses alone.
 use Rattle.std.specs.Prelude.{◌≡◌, ◌≢◌, ℕ, ◌+◌, ◌<◌, List, true, false}
 use mathlib.Core.Option.{Option, some, none}
 use lib.ListN.{get_elem?}

@@ -1,5 +1,4 @@
 -- The name of a table of halves.
--- Cited by invariants and private clauses alone.
 use Rattle.std.specs.Prelude.{[]}
 use Rattle.atomic_table.specs.Seated.{TableId}
 

@@ -1,5 +1,4 @@
 -- What clauses see of a charge and of a share.
--- Cited by `Share::held`, `Charge::row`, `Charge::issue` and others.
 use Rattle.std.specs.Prelude.{◌≡◌, ℕ, zero, suc, ◌+◌, ◌-◌, ◌^◌, ◌≤◌, List, [], ◌∷◌, ◌++◌, Bool, true, false}
 use Rattle.snap_usage.specs.declared.usage.Usage.{Usage}
 use Rattle.snap_usage.specs.Counted.{Covers, no_usage}

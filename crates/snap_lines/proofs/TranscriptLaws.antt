@@ -15,7 +15,7 @@ use Rattle.snap_lines.proofs.LineLaws.{line_split, line_last, line_begins, Begin
 use Rattle.snap_lines.specs.Effects.{Effect, Effects}
 use Rattle.snap_lines.specs.Lines.{lines_of, is_open, without_feed, feeds}
 use Rattle.snap_script.specs.Lines.{max_line}
-use Rattle.snap_lines.specs.Transcripts.{Place, Transcript, Tells, TellsPart, prepended, transcript_from, effect_at, effect_within, goes_on, next_number, passes, left_after, place_after, cut}
+use Rattle.snap_lines.specs.Transcripts.{Place, Transcript, Tells, TellsPart, prepended, transcript_from, effect_at, effect_within, goes_on, next_line, passes, left_after, place_after, cut_length}
 use Rattle.snap_lines.specs.Runs.{Behind, Run, within, kept_length, some_of, and_more, transcript_on, Goes, EndsAtFault, TakesLine, line_in, Refuses, Breaks, LeavesLine, StopsIn, StopsAtEnd}
 use Rattle.snap_lines.specs.declared.stop.LineFault.{LineFault}
 use Rattle.snap_lines.specs.declared.stop.Stop.{Stop}
@@ -136,7 +136,7 @@ effect_over effect place line h = over_within effect place.left place.value line
 
 fits_within : {A : Type 0} (effect : Effects A) (left : Option ℕ) (value : A) (p : List ℕ) (ended : Bool) → is_open p ≡ true → length p ≤ kept_length left → passes left (length (line_in p ended)) ≡ false
     → effect_within effect left value (line_in p ended) ≡ effect value p
-fits_within effect None value p ended o short h = ap (λ l. effect value (take cut l)) (feed_line p ended o) ∙ ap (effect value) (take_all cut p short)
+fits_within effect None value p ended o short h = ap (λ l. effect value (take cut_length l)) (feed_line p ended o) ∙ ap (effect value) (take_all cut_length p short)
 fits_within effect (Some left) value p ended o short h =
     ap (λ t. cond (t || nat_lt max_line (length (without_feed (line_in p ended)))) (Err TooLong) (effect value (without_feed (line_in p ended)))) h
     ∙ ap (λ l. cond (nat_lt max_line (length l)) (Err TooLong) (effect value l)) (feed_line p ended o)
@@ -152,12 +152,12 @@ abbrev pub behind : ℕ → Option ℕ → List ℕ → Behind
 behind n left p = record { lines = n; left = left; pending = p }
 
 -- the place after a line
-pub run_after : {A : Type 0} (n m k : ℕ) (left rest : Option ℕ) (p q : List ℕ) (s : Behind) (v w : A) (ended : Bool) → behind n left p ≡ s → m ≡ next_number n → rest ≡ left_after left k
+pub run_after : {A : Type 0} (n m k : ℕ) (left rest : Option ℕ) (p q : List ℕ) (s : Behind) (v w : A) (ended : Bool) → behind n left p ≡ s → m ≡ next_line n → rest ≡ left_after left k
     → k ≡ length (line_in s.pending ended) → q ≡ [] → within (behind m rest q) w ≡ record { place = place_after (within s v).place (line_in s.pending ended) w; pending = [] }
 run_after n m k left rest p q s v w ended e number less h none =
-    ap (λ i. within (behind i rest q) w) number ∙ ap (λ l. within (behind (next_number n) l q) w) less
-    ∙ ap (λ (z : Behind). within (behind (next_number z.lines) (left_after z.left k) q) w) e
-    ∙ ap (λ l. within (behind (next_number s.lines) (left_after s.left l) q) w) h ∙ ap (λ u. within (behind (next_number s.lines) (left_after s.left (length (line_in s.pending ended))) u) w) none
+    ap (λ i. within (behind i rest q) w) number ∙ ap (λ l. within (behind (next_line n) l q) w) less
+    ∙ ap (λ (z : Behind). within (behind (next_line z.lines) (left_after z.left k) q) w) e
+    ∙ ap (λ l. within (behind (next_line s.lines) (left_after s.left l) q) w) h ∙ ap (λ u. within (behind (next_line s.lines) (left_after s.left (length (line_in s.pending ended))) u) w) none
 
 pub line_len : (p : List ℕ) (ended : Bool) (n k : ℕ) → n ≡ length p → k ≡ bool_byte ended → n + k ≡ length (line_in p ended)
 line_len p true n k h e = let l = length-append p (10 ∷ []) in omega arith
@@ -165,7 +165,7 @@ line_len p false n k h e = omega arith
 
 pub leaves_refused : {A : Type 0} (effect : Effects A) (r : Run A) (line : List ℕ) (reading : Result (Effect A) Fault) (lines : ℕ) (stop : Stop) (x : Option (List ℕ)) → effect_at effect r.place line ≡ reading → lines ≡ r.place.lines
     → Refuses reading lines stop → LeavesLine effect r line stop x x
-leaves_refused effect r line reading lines (Line f) x e n h = ((e ∙ h.0, h.1 ∙ ap next_number n), refl)
+leaves_refused effect r line reading lines (Line f) x e n h = ((e ∙ h.0, h.1 ∙ ap next_line n), refl)
 leaves_refused effect r line reading lines InputFailed x e n h = absurd h
 leaves_refused effect r line reading lines OutputFailed x e n h = absurd h
 leaves_refused effect r line reading lines (OutOfMemory want) x e n h = (tt, refl)
@@ -184,7 +184,7 @@ line_ok effect r q line text e h more =
     ap (λ z. goes_on r.place line z (λ p. transcript_from effect p more)) e
     ∙ ap (λ z. prepended text (transcript_from effect z.place more)) (sym h)
 
-line_err : {A : Type 0} (effect : Effects A) (place : Place A) (line : List ℕ) (lines : List (List ℕ)) (f : LineFault) → effect_at effect place line ≡ Err f.cause → f.line ≡ next_number place.lines
+line_err : {A : Type 0} (effect : Effects A) (place : Place A) (line : List ℕ) (lines : List (List ℕ)) (f : LineFault) → effect_at effect place line ≡ Err f.cause → f.line ≡ next_line place.lines
     → transcript_from effect place (line ∷ lines) ≡ record { text = []; fault = Some f; value = place.value }
 line_err effect place line lines f e h =
     ap (λ z. goes_on place line z (λ p. transcript_from effect p lines)) e
@@ -202,7 +202,7 @@ newline_goes effect r q x y o t = record {
   appended = t.3;
 }
 
-pub newline_ends : {A : Type 0} (effect : Effects A) (r : Run A) (f : LineFault) (x : Option (List ℕ)) → is_open r.pending ≡ true → effect_at effect r.place (line_in r.pending true) ≡ Err f.cause → f.line ≡ next_number r.place.lines
+pub newline_ends : {A : Type 0} (effect : Effects A) (r : Run A) (f : LineFault) (x : Option (List ℕ)) → is_open r.pending ≡ true → effect_at effect r.place (line_in r.pending true) ≡ Err f.cause → f.line ≡ next_line r.place.lines
     → EndsAtFault effect r (10 ∷ []) f x x
 unfolding transcript_on
 newline_ends effect r f x o e h =
@@ -252,7 +252,7 @@ left_none left k e = ap (λ z. left_after z k) e
 goes_alike : {A : Type 0} (place : Place A) (a b : List ℕ) (e : Result (Effect A) Fault) (more : Place A → Transcript A) → place.left ≡ None → goes_on place a e more ≡ goes_on place b e more
 goes_alike place a b (Err c) more none = refl
 goes_alike place a b (Ok e) more none =
-    ap (λ o. prepended e.text (more (record { lines = next_number place.lines; left = o; value = e.value }))) (left_none place.left (length a) none ∙ sym (left_none place.left (length b) none))
+    ap (λ o. prepended e.text (more (record { lines = next_line place.lines; left = o; value = e.value }))) (left_none place.left (length a) none ∙ sym (left_none place.left (length b) none))
 
 line_alike : {A : Type 0} (effect : Effects A) (place : Place A) (a b : List ℕ) (lines : List (List ℕ)) → place.left ≡ None → effect_at effect place a ≡ effect_at effect place b
     → transcript_from effect place (a ∷ lines) ≡ transcript_from effect place (b ∷ lines)
@@ -265,13 +265,13 @@ some_alike effect place a b lines None none e = line_alike effect place a b line
 some_alike effect place a b lines (Some zero) none e = refl
 some_alike effect place a b lines (Some (suc k)) none e = line_alike effect place a b (take k lines) none e
 
-cut_effect : {A : Type 0} (effect : Effects A) (place : Place A) (p more : List ℕ) → place.left ≡ None → is_open p ≡ true → length p ≡ cut → effect_at effect place (p ++ more) ≡ effect place.value p
+cut_effect : {A : Type 0} (effect : Effects A) (place : Place A) (p more : List ℕ) → place.left ≡ None → is_open p ≡ true → length p ≡ cut_length → effect_at effect place (p ++ more) ≡ effect place.value p
 unfolding effect_at
 cut_effect effect place p more none o long =
-    ap (λ z. effect_within effect z place.value (p ++ more)) none ∙ ap (λ l. effect place.value (take cut l)) (feed_after p more o)
+    ap (λ z. effect_within effect z place.value (p ++ more)) none ∙ ap (λ l. effect place.value (take cut_length l)) (feed_after p more o)
     ∙ ap (λ k. effect place.value (take k (p ++ without_feed more))) (sym long) ∙ ap (effect place.value) (take-append_seam p (without_feed more))
 
-cut_alike : {A : Type 0} (effect : Effects A) (r : Run A) (b : ℕ) (n : Option ℕ) (rest : List ℕ) → (b == 10) ≡ false → is_open r.pending ≡ true → r.place.left ≡ None → length r.pending ≡ cut
+cut_alike : {A : Type 0} (effect : Effects A) (r : Run A) (b : ℕ) (n : Option ℕ) (rest : List ℕ) → (b == 10) ≡ false → is_open r.pending ≡ true → r.place.left ≡ None → length r.pending ≡ cut_length
     → transcript_on effect r n (b ∷ rest) ≡ transcript_on effect r n rest
 unfolding transcript_on
 cut_alike effect r b n rest e o none long =
@@ -282,11 +282,11 @@ cut_alike effect r b n rest e o none long =
     ∙ ap (λ l. transcript_from effect r.place (some_of n l)) (sym both.short)
 
 -- a line that has passed its limit and goes on is cut
-pub is_cut : (left : Option ℕ) (n : ℕ) → n ≤ kept_length left → max_line < n → (left ≡ None) × (n ≡ cut)
+pub is_cut : (left : Option ℕ) (n : ℕ) → n ≤ kept_length left → max_line < n → (left ≡ None) × (n ≡ cut_length)
 is_cut None n fits long = (refl, omega arith)
 is_cut (Some k) n fits long = absurd (omega arith)
 
-pub cut_goes : {A : Type 0} (effect : Effects A) (r : Run A) (b : ℕ) (x : Option (List ℕ)) → (b == 10) ≡ false → is_open r.pending ≡ true → r.place.left ≡ None → length r.pending ≡ cut → Goes effect r (b ∷ []) r x x
+pub cut_goes : {A : Type 0} (effect : Effects A) (r : Run A) (b : ℕ) (x : Option (List ℕ)) → (b == 10) ≡ false → is_open r.pending ≡ true → r.place.left ≡ None → length r.pending ≡ cut_length → Goes effect r (b ∷ []) r x x
 cut_goes effect r b x e o none long = record {
   written = [];
   leads = λ n rest.
@@ -326,7 +326,7 @@ long_effect effect place p more o limited h =
     long_within effect place.left place.value (p ++ more) limited (omega arith)
 
 pub long_ends : {A : Type 0} (effect : Effects A) (r : Run A) (b : ℕ) (f : LineFault) (x : Option (List ℕ)) → is_open r.pending ≡ true → (b == 10) ≡ false → is_some r.place.left ≡ true → length r.pending ≡ max_line
-    → f ≡ record { line = next_number r.place.lines; cause = TooLong } → EndsAtFault effect r (b ∷ []) f x x
+    → f ≡ record { line = next_line r.place.lines; cause = TooLong } → EndsAtFault effect r (b ∷ []) f x x
 unfolding transcript_on
 long_ends effect r b f x o e limited h is =
     let p = r.pending ++ b ∷ [] in
@@ -339,7 +339,7 @@ long_ends effect r b f x o e limited h is =
           let first = begins_any p rest open_p (omega arith) in
           ap (λ l. transcript_from effect r.place (lines_of l)) (sym (append_assoc r.pending (b ∷ []) rest))
           ∙ ap (transcript_from effect r.place) first.is
-          ∙ line_err effect r.place (p ++ first.more) first.lines (record { line = next_number r.place.lines; cause = TooLong }) (long_effect effect r.place p first.more open_p limited (omega arith)) refl
+          ∙ line_err effect r.place (p ++ first.more) first.lines (record { line = next_line r.place.lines; cause = TooLong }) (long_effect effect r.place p first.more open_p limited (omega arith)) refl
           ∙ ap (λ g. record { text = []; fault = Some g; value = r.place.value }) (sym is),
     )
 
@@ -373,7 +373,7 @@ end_ok effect r q x y o h t = tells (transcript_on effect r None []) t.0 None q.
 pub end_value : {A : Type 0} (effect : Effects A) (r q : Run A) (x y : Option (List ℕ)) → is_open r.pending ≡ true → 0 < length r.pending → TakesLine effect r (line_in r.pending false) q x y → (transcript_on effect r None []).value ≡ q.place.value
 end_value effect r q x y o h t = ap (λ z. z.value) (end_is effect r q x y o h t)
 
-pub end_err : {A : Type 0} (effect : Effects A) (r : Run A) (f : LineFault) (x : Option (List ℕ)) → is_open r.pending ≡ true → 0 < length r.pending → effect_at effect r.place (line_in r.pending false) ≡ Err f.cause → f.line ≡ next_number r.place.lines
+pub end_err : {A : Type 0} (effect : Effects A) (r : Run A) (f : LineFault) (x : Option (List ℕ)) → is_open r.pending ≡ true → 0 < length r.pending → effect_at effect r.place (line_in r.pending false) ≡ Err f.cause → f.line ≡ next_line r.place.lines
     → Tells (transcript_on effect r None []) (Some f) x x
 unfolding transcript_on
 end_err effect r f x o h e l =

@@ -1,5 +1,4 @@
 -- What one line makes of a value; cited by the trait `TakeLine`.
--- Cited by `read_lines`, `write_jobs_within`, `write_jobs` and others.
 use Rattle.std.specs.Prelude.{ℕ, List, [], Option, Some, None, Result, String, string_bytes}
 use Rattle.std.specs.declared.alloc.Global.{Global}
 use Rattle.snap_script.specs.declared.fault.Fault.{Fault}

@@ -1,5 +1,4 @@
 -- The lines of an input; cited by the public clauses of `read_lines` through Transcripts.antt.
--- Cited by `read_lines`, `write_jobs_within`, `write_jobs` and others.
 use Rattle.std.specs.Prelude.{ℕ, ◌==◌, List, [], ◌∷◌, Bool, not, if◌then◌else◌}
 use Rattle.std.specs.List.{count_by, list_all, onto_first}
 

@@ -1,12 +1,11 @@
 -- What is left of a transcript within a line, and how bytes lead from one place to another.
--- Cited by `write_bytes`.
 use Rattle.std.specs.Prelude.{◌≡◌, ℕ, ◌+◌, List, [], ◌∷◌, ◌++◌, take, Bool, Option, Some, None, Result, Ok, Err, if◌then◌else◌}
 use Rattle.std.specs.Io.KnownBytes.{Appends}
 use Rattle.snap_script.specs.declared.fault.Fault.{Fault}
 use Rattle.snap_lines.specs.Effects.{Effect, Effects}
 use Rattle.snap_lines.specs.Lines.{lines_of, feeds}
 use Rattle.snap_script.specs.Lines.{max_line}
-use Rattle.snap_lines.specs.Transcripts.{cut, next_number, Place, Transcript, prepended, effect_at, place_after, transcript_from, Tells, TellsPart}
+use Rattle.snap_lines.specs.Transcripts.{cut_length, next_line, Place, Transcript, prepended, effect_at, place_after, transcript_from, Tells, TellsPart}
 use Rattle.snap_lines.specs.declared.stop.LineFault.{LineFault}
 use Rattle.snap_lines.specs.declared.stop.Stop.{Stop}
 use Rattle.snap_lines.specs.declared.stop.Stop.TheVariants.{Line, InputFailed, OutputFailed, OutOfMemory}
@@ -23,7 +22,7 @@ nothing most = record { lines = 0; left = most; pending = [] }
 
 -- so many bytes are kept of a line at most: where the input has no limit, one more than a line has, by which a longer one is known
 abbrev pub kept_length : Option ℕ → ℕ
-kept_length None = cut
+kept_length None = cut_length
 kept_length (Some left) = max_line
 
 -- a place within a line, of which pending has come
@@ -96,7 +95,7 @@ TakesLine effect r line q before behind = (text : List ℕ) × (effect_at effect
 
 -- the line after so many has this fault, or memory was refused
 abbrev pub Refuses : {A : Type 0} → Result (Effect A) Fault → ℕ → Stop → Type 0
-Refuses reading lines (Line f) = (reading ≡ Err f.cause) × (f.line ≡ next_number lines)
+Refuses reading lines (Line f) = (reading ≡ Err f.cause) × (f.line ≡ next_line lines)
 Refuses reading lines (OutOfMemory want) = Unit {0}
 Refuses reading lines stop = ⊥
 

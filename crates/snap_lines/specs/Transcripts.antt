@@ -1,5 +1,4 @@
 -- What the lines of an input make of a value and what is written for them, line for line, and the first fault; cited by the public clauses of `read_lines`.
--- Cited by `read_lines`, `write_jobs_within`, `write_jobs` and others.
 use Rattle.std.specs.Prelude.{◌≡◌, ℕ, ◌+◌, ◌-◌, ◌^◌, min, List, [], ◌∷◌, ◌++◌, length, take, Bool, false, ◌||◌, Option, Some, None, Result, Ok, Err, nat_lt, if◌then◌else◌}
 use Rattle.std.specs.Io.KnownBytes.{Appends, Consumes}
 use Rattle.snap_script.specs.declared.fault.Fault.{Fault}
@@ -12,8 +11,8 @@ use Rattle.snap_lines.specs.declared.stop.Stop.{Stop}
 use Rattle.snap_lines.specs.declared.stop.Stop.TheVariants.{Line, InputFailed, OutputFailed, OutOfMemory}
 
 -- a longer line that is handed on is cut after so many bytes
-abbrev pub cut : ℕ
-cut = max_line + 1
+abbrev pub cut_length : ℕ
+cut_length = max_line + 1
 
 -- all lines of a script have at most 1 GiB, with their line feeds
 abbrev pub max_bytes : ℕ
@@ -26,8 +25,8 @@ pub record Place (A : Type 0) : Type 0 where
   pub value : A
 
 -- the number of the line after so many; the numbers end at 2^64 - 1
-abbrev pub next_number : ℕ → ℕ
-next_number lines = min (lines + 1) (2 ^ 64 - 1)
+abbrev pub next_line : ℕ → ℕ
+next_line lines = min (lines + 1) (2 ^ 64 - 1)
 
 -- so many bytes pass what is left
 abbrev pub passes : Option ℕ → ℕ → Bool
@@ -55,7 +54,7 @@ is_over_limit left line = nat_lt left (length line) || nat_lt max_line (length (
 
 -- what a line, with its line feed, does to the value. Where all lines have a limit, one that is too long is a fault; where they have none, it is handed on, cut.
 abbrev pub effect_within : {A : Type 0} → Effects A → Option ℕ → A → List ℕ → Result (Effect A) Fault
-effect_within effect None value line = effect value (take cut (without_feed line))
+effect_within effect None value line = effect value (take cut_length (without_feed line))
 effect_within effect (Some left) value line = if is_over_limit left line then Err TooLong else effect value (without_feed line)
 
 -- the same at a place
@@ -64,11 +63,11 @@ effect_at effect p line = effect_within effect p.left p.value line
 
 -- the place after a line that leaves this value
 abbrev pub place_after : {A : Type 0} → Place A → List ℕ → A → Place A
-place_after p line value = record { lines = next_number p.lines; left = left_after p.left (length line); value = value }
+place_after p line value = record { lines = next_line p.lines; left = left_after p.left (length line); value = value }
 
 -- after a line: a fault, which has the number of the line, ends it
 abbrev pub goes_on : {A : Type 0} → Place A → List ℕ → Result (Effect A) Fault → (Place A → Transcript A) → Transcript A
-goes_on p line (Err c) more = record { text = []; fault = Some (record { line = next_number p.lines; cause = c }); value = p.value }
+goes_on p line (Err c) more = record { text = []; fault = Some (record { line = next_line p.lines; cause = c }); value = p.value }
 goes_on p line (Ok e) more = prepended e.text (more (place_after p line e.value))
 
 -- the transcript of the lines that are left

@@ -1,5 +1,4 @@
 -- What an end is called, and the status of the program; cited by the public clauses of `Stop` and `LineFault`.
--- Cited by `Stop::status`, `Stop as Display`, `LineFault as Display` and others.
 use Rattle.std.specs.Prelude.{ℕ, List, ◌++◌, codes, decimal}
 use Rattle.snap_script.specs.Faults.{fault_words}
 use Rattle.snap_script.specs.declared.fault.Fault.{Fault}

@@ -3,7 +3,7 @@ ghost use Rattle.std.specs.Prelude.{None, ◌≡◌, ◌<◌, [], ◌∷◌, len
 ghost use Rattle.std.specs.Io.KnownBytes.{Appends};
 ghost use Rattle.snap_script.specs.declared.fault.Shortage.{Shortage};
 ghost use Rattle.snap_lines.specs.Effects.{effect_with, text_bytes};
-ghost use Rattle.snap_lines.specs.Transcripts.{Tells, next_number, passes, left_after};
+ghost use Rattle.snap_lines.specs.Transcripts.{Tells, next_line, passes, left_after};
 ghost use Rattle.snap_lines.specs.Runs.{nothing, within, transcript_on, line_in, TakesLine, Goes, Refuses, Breaks, LeavesLine, StopsIn, StopsAtEnd};
 
 use crate::stop::{LineFault, Stop};
@@ -18,7 +18,7 @@ const WRITES: u64 = u64::MAX;
 
 // The fault of the line after so many.
 fn fault(lines: u64, cause: Fault) -> Stop
-    ensures { result ≡ Stop.Line (record { line = next_number lines; cause = cause }) }
+    ensures { result ≡ Stop.Line (record { line = next_line lines; cause = cause }) }
 {
     let line = lines.saturating_add(1);
     Stop::Line(LineFault { line, cause })

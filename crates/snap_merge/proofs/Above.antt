@@ -7,7 +7,7 @@ use Rattle.snap_layer.specs.declared.node.Node.TheVariants.{Dir, File, Symlink, 
 use Rattle.snap_layer.specs.Tree.{Tree, at, hides, node_hides, IsDirAt}
 use Rattle.snap_merge.specs.Objects.{Object, dir, file, symlink, seen, seen_over, is_shown_dir, AreLayers}
 use Rattle.snap_merge.specs.declared.error.FsError.{FsError}
-use Rattle.snap_merge.specs.Walk.{walk_on, walk_from, walk}
+use Rattle.snap_merge.specs.Walk.{walk_on, walk_from, walk_error}
 use Rattle.snap_merge.proofs.Hiding.{hides_snoc}
 
 not_both : (a b : Bool) → (a || b) ≡ false → (a ≡ false) × (b ≡ false)
@@ -83,5 +83,5 @@ walk_reaches s ok (n ∷ rest) front some =
     by true e = refl
     by false e = absurd (gone (nothing_seen s ok rest front n e) some)
 
-pub walk_to_seen : (s : List Tree) → AreLayers s → (p : Names) → IsSome (seen s p) → walk s p ≡ None
+pub walk_to_seen : (s : List Tree) → AreLayers s → (p : Names) → IsSome (seen s p) → walk_error s p ≡ None
 walk_to_seen s ok p some = walk_reaches s ok p [] some

@@ -3,7 +3,7 @@ use Rattle.std.proofs.Common.{◌≡◌, ℕ, ◌+◌, ◌-◌, ◌<◌, ◌≤�
 use Rattle.std.specs.Prelude.{if◌then◌else◌, is_some, zero, suc, nat_lt, nat_le, ◌&&◌, ◌||◌, ◌==◌}
 use Rattle.std.specs.Result.{IsErrAnd}
 use Rattle.std.specs.List.{list_all}
-use Rattle.std.specs.Str.{bytes_eq}
+use Rattle.std.specs.Str.{bytes_eq, is_utf8}
 use Rattle.std.proofs.lemmas.Bool.Decides.{nat_tests}
 use Rattle.std.proofs.lemmas.List.{at_drop_more, take_more, take_all, take-append-drop}
 use Rattle.snap_path.specs.Text.{Names, IsPath, is_name, is_name_byte, text_below}
@@ -15,6 +15,7 @@ use Rattle.snap_merge.specs.declared.error.FsError.TheVariants.{BadPath, NotDir,
 use Rattle.snap_merge.specs.Objects.{Object, dir, file, symlink, seen, is_shown_dir, AreLayers}
 use Rattle.snap_merge.specs.Walk.{walk_on, walk_from, Answers}
 use Rattle.snap_merge.specs.Resolving.{Answer, is_here, is_above, above, is_too_long, start_of, words_of, entered, way, following, resolution, met, plain_error, is_shown_end}
+use Rattle.snap_merge.specs.Arrivals.{TakesAlong}
 use Rattle.snap_merge.specs.Rules.{ResolvingRules}
 use Rattle.snap_merge.proofs.Above.{dir_above}
 use Rattle.snap_merge.proofs.Ways.{way_enters}
@@ -94,9 +95,13 @@ neither : (a b : Bool) → a ≡ false → b ≡ false → (a || b) ≡ false
 neither true b e f = absurd (cc)
 neither false b e f = f
 
+front_true : (a b : Bool) → (a && b) ≡ true → a ≡ true
+front_true true b e = refl
+front_true false b e = absurd (cc)
+
 no_word : (n : List ℕ) → is_name n ≡ true → (is_here n ≡ false) × (is_above n ≡ false) × (length n ≤ 255)
 no_word n e =
-    let parts = name_parts (nat_lt 0 (length n)) (nat_le (length n) 255) (list_all is_name_byte n) (bytes_eq n (46 ∷ [])) (bytes_eq n (46 ∷ 46 ∷ [])) e in
+    let parts = name_parts (nat_lt 0 (length n)) (nat_le (length n) 255) (list_all is_name_byte n) (bytes_eq n (46 ∷ [])) (bytes_eq n (46 ∷ 46 ∷ [])) (front_true _ (is_utf8 n) e) in
     let some : nat_lt 0 (length n) ≡ true = parts.0 in
     let few : nat_le (length n) 255 ≡ true = parts.1 in
     let word : (length n == 0) ≡ false = grind (arith, nat_tests) in
@@ -156,6 +161,40 @@ way_dirs follow s p m path dirs (suc j) within few =
     ∙ sym (way_enters follow s (take j p) n rest (dirs j (omega (arith, few))) enters.0 enters.1 enters.2 ∙ goes_on _ _ _ (dir_is_end _ further))
     ∙ sym (at_drop_more (way follow s (take j p)) p j [] lt)
     ∙ way_dirs follow s p m path dirs j (omega (arith, within)) (omega (arith, few)))
+
+-- from one of a path's directories the way by the next name leads to the next directory, and on by other words
+way_on : (follow : Names → Names → Answer) (s : List Tree) (p : Names) (m : ℕ) → IsPath p → ((j : ℕ) → j < m → is_shown_dir (seen s (take j p)) ≡ true) → (j : ℕ) → j < length p → j + 1 < m → (ws : Names) → way follow s (take (j + 1) p) ws ≡ way follow s (take j p) (get_or p j [] ∷ ws)
+way_on follow s p m path dirs j lt few ws =
+    let n = get_or p j [] in
+    let rest = drop (j + 1) p in
+    let next : take (j + 1) p ≡ take j p ++ n ∷ [] = take_more p j [] lt in
+    let whole : p ≡ take j p ++ n ∷ rest = sym (take-append-drop j p) ∙ at_drop_more (λ (q : Names). take j p ++ q) p j [] lt in
+    let enters = names_enter (take j p) n rest (subst IsPath whole path) in
+    let further : is_shown_dir (seen s (take j p ++ n ∷ [])) ≡ true = subst (λ (q : Names). is_shown_dir (seen s q) ≡ true) next (dirs (j + 1) few) in
+    ap (λ (q : Names). way follow s q ws) next
+    ∙ sym (way_enters follow s (take j p) n ws (dirs j (omega (arith, few))) enters.0 enters.1 enters.2 ∙ goes_on _ _ _ (dir_is_end _ further))
+
+-- by a word that stands for the directory itself it stays there
+way_stays : (follow : Names → Names → Answer) (s : List Tree) (place : Names) (w : List ℕ) (ws : Names) → is_shown_dir (seen s place) ≡ true → is_here w ≡ true → way follow s place ws ≡ way follow s place (w ∷ ws)
+way_stays follow s place w ws directory here = sym (λ i.
+    if not (directory i) then Err NotDir
+    else if here i then way follow s place ws
+    else if is_above w then way follow s (above place) ws
+    else if is_too_long place w then Err BadPath
+    else entered (λ target. follow (start_of place target) (words_of target ++ ws)) (way follow s (place ++ w ∷ []) ws) (seen s (place ++ w ∷ [])))
+
+-- so it does by a word that is taken along
+pub way_along : (follow : Names → Names → Answer) (s : List Tree) (p : Names) (m : ℕ) → IsPath p → ((j : ℕ) → j < m → is_shown_dir (seen s (take j p)) ≡ true) → (j : ℕ) → j < length p → j + 1 < m
+    → (b : Bool) (k : ℕ) → k ≡ (if b then 1 else 0) → (n : List ℕ) → n ≡ get_or p j [] → (old new : Names) → TakesAlong n b old new → way follow s (take (j + k) p) new ≡ way follow s (take j p) old
+way_along follow s p m path dirs j lt few true k is n name old new along =
+    ap (λ (i : ℕ). way follow s (take (j + i) p) new) is
+    ∙ way_on follow s p m path dirs j lt few new
+    ∙ ap (way follow s (take j p)) (ap (λ (x : List ℕ). x ∷ new) (sym name) ∙ sym along)
+way_along follow s p m path dirs j lt few false k is n name old new along =
+    let still : j + k ≡ j = omega (arith, is) in
+    ap (λ (i : ℕ). way follow s (take i p) new) still
+    ∙ way_stays follow s (take j p) along.0 new (dirs j (omega (arith, few))) along.2
+    ∙ ap (way follow s (take j p)) (sym along.1)
 
 -- a name leads to the error that is met, where it leads to one before a symlink
 met_error : (follow : Names → Names → Answer) (s : List Tree) (place : Names) (w : List ℕ) (ws : Names) (e : FsError)

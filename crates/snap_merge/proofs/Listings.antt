@@ -16,7 +16,8 @@ use Rattle.snap_layer.specs.declared.node.Node.{Node}
 use Rattle.snap_layer.specs.Tree.{Tree, at, hides, names_below}
 use Rattle.snap_layer.proofs.Laws.{names_below_are}
 use Rattle.snap_merge.specs.Objects.{Object, seen, seen_over, AreLayers}
-use Rattle.snap_merge.specs.Listing.{name_cmp, put_names, gathered, names, IsListing}
+use Rattle.snap_merge.specs.Listing.{put_names, gathered, names, IsListing}
+use Rattle.snap_layer.specs.Rows.{name_cmp}
 
 -- ---- the order
 

@@ -17,7 +17,7 @@ use Rattle.snap_layer.proofs.Kept.{nothing_below}
 use Rattle.snap_merge.specs.declared.error.FsError.{FsError}
 use Rattle.snap_merge.specs.declared.error.FsError.TheVariants.{NotFound, NotDir}
 use Rattle.snap_merge.specs.Objects.{Object, dir, file, symlink, shown, shown_body, seen, seen_over, is_shown_dir, AreLayers}
-use Rattle.snap_merge.specs.Walk.{walk_on, walk_from, walk}
+use Rattle.snap_merge.specs.Walk.{walk_on, walk_from, walk_error}
 use Rattle.snap_merge.specs.Resolving.{met, plain_error}
 use Rattle.snap_merge.specs.Reach.{Traced, Reached, Begun, Settles, Leaves}
 use Rattle.snap_merge.proofs.Hiding.{hides_snoc}
@@ -223,10 +223,10 @@ pub reached_whole : (s : List Tree) (p : Names) (k : ℕ) (o : Option Object) �
 reached_whole s p k o reached le = sym reached.end ∙ ap (seen s) (take_all k p le)
 
 module _ (s : List Tree) (p : Names) (k : ℕ) (dirs : (j : ℕ) → j < k → is_shown_dir (seen s (take j p)) ≡ true) where
-  walk_dirs : (j : ℕ) → j ≤ k → j ≤ length p → walk_from s (take j p) (drop j p) ≡ walk s p
+  walk_dirs : (j : ℕ) → j ≤ k → j ≤ length p → walk_from s (take j p) (drop j p) ≡ walk_error s p
   walk_dirs zero le within = refl
   walk_dirs (suc j) le within =
-      subst (λ (i : ℕ). walk_from s (take i p) (drop i p) ≡ walk s p) (add-one j)
+      subst (λ (i : ℕ). walk_from s (take i p) (drop i p) ≡ walk_error s p) (add-one j)
       (sym (walk_from_dir (seen s (take j p)) (walk_from s (take (j + 1) p) (drop (j + 1) p)) (dirs j (omega arith)))
       ∙ walk_at s p j (seen s (take j p)) (omega arith) refl (walk_dirs j (omega arith) (omega arith)))
 
@@ -243,10 +243,10 @@ module _ (s : List Tree) (p : Names) (k : ℕ) (dirs : (j : ℕ) → j < k → i
       met_dir (Some (file m b)) later e = absurd (cc)
       met_dir (Some (symlink b)) later e = absurd (cc)
 
-pub walk_passes : (s : List Tree) (p : Names) (k : ℕ) (o : Option Object) → Reached s p k o → length p ≤ k → walk s p ≡ None
+pub walk_passes : (s : List Tree) (p : Names) (k : ℕ) (o : Option Object) → Reached s p k o → length p ≤ k → walk_error s p ≡ None
 walk_passes s p k o reached le = sym (walk_dirs s p k reached.dirs (length p) le (omega arith)) ∙ ap (walk_from s (take (length p) p)) (drop_all (length p) p (omega arith))
 
-pub walk_stops : (s : List Tree) (p : Names) (k : ℕ) (o : Option Object) → Reached s p k o → k < length p → walk s p ≡ walk_on o None
+pub walk_stops : (s : List Tree) (p : Names) (k : ℕ) (o : Option Object) → Reached s p k o → k < length p → walk_error s p ≡ walk_on o None
 walk_stops s p k o reached lt =
     sym (walk_dirs s p k reached.dirs k (omega arith) (omega arith)) ∙ walk_more s p k lt
     ∙ ap (λ x. walk_on x (walk_from s (take (k + 1) p) (drop (k + 1) p))) reached.end

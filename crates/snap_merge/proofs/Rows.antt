@@ -17,7 +17,8 @@ use Rattle.snap_merge.specs.declared.taken.Part.{Part}
 use Rattle.snap_merge.specs.Objects.{seen, AreLayers}
 use Rattle.snap_merge.specs.Reach.{Traced}
 use Rattle.snap_merge.specs.Shares.{has, is_there, Shares}
-use Rattle.snap_merge.specs.Listing.{name_cmp, put_names, names}
+use Rattle.snap_merge.specs.Listing.{put_names, names}
+use Rattle.snap_layer.specs.Rows.{name_cmp}
 use Rattle.snap_merge.specs.Taken.{part, part_over, parts_below, with_inside}
 use Rattle.snap_merge.specs.Row.{Row, dir_at, hides_inside, row, entry_in, next_dir, entry_hides, row_at, is_seen_over, is_seen_in, gathered_in, names_in, part_at, part_over_dir, part_in, parts_in}
 use Rattle.snap_merge.proofs.Hiding.{hides_snoc}

@@ -25,7 +25,8 @@ use Rattle.snap_layer.proofs.Laws.{names_below_are}
 use Rattle.snap_layer.proofs.Kept.{nothing_below}
 use Rattle.snap_merge.specs.Objects.{Object, seen, seen_over, shown, shown_body}
 use Rattle.snap_merge.specs.Reach.{Traced}
-use Rattle.snap_merge.specs.Listing.{name_cmp, names}
+use Rattle.snap_merge.specs.Listing.{names}
+use Rattle.snap_layer.specs.Rows.{name_cmp}
 use Rattle.snap_merge.specs.Shares.{has, seen_so_far, is_there, is_shown, Shares}
 use Rattle.snap_merge.proofs.Hiding.{hides_snoc}
 use Rattle.snap_merge.proofs.Reaching.{hides_covered, hides_stop, much_longer}

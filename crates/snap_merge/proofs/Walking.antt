@@ -6,7 +6,7 @@ use Rattle.snap_path.specs.Text.{Names}
 use Rattle.snap_layer.specs.Tree.{Tree}
 use Rattle.snap_merge.specs.declared.error.FsError.TheVariants.{NotDir}
 use Rattle.snap_merge.specs.Objects.{Object, seen, is_shown_dir}
-use Rattle.snap_merge.specs.Walk.{walk_on, walk_from, walk}
+use Rattle.snap_merge.specs.Walk.{walk_on, walk_from, walk_error}
 use Rattle.snap_merge.specs.Resolving.{met, plain_error}
 
 -- one name further
@@ -16,7 +16,7 @@ walk_more s p k lt =
     ∙ ap (λ (front : Names). walk_on (seen s (take k p)) (walk_from s front (drop (k + 1) p))) (sym (take_more p k [] lt))
 
 -- what is seen above the path decides the walk, or what follows does
-pub walk_at : (s : List Tree) (p : Names) (k : ℕ) (o : Option Object) → k < length p → o ≡ seen s (take k p) → walk_from s (take k p) (drop k p) ≡ walk s p → walk_on o (walk_from s (take (k + 1) p) (drop (k + 1) p)) ≡ walk s p
+pub walk_at : (s : List Tree) (p : Names) (k : ℕ) (o : Option Object) → k < length p → o ≡ seen s (take k p) → walk_from s (take k p) (drop k p) ≡ walk_error s p → walk_on o (walk_from s (take (k + 1) p) (drop (k + 1) p)) ≡ walk_error s p
 walk_at s p k o lt here so_far = ap (λ x. walk_on x (walk_from s (take (k + 1) p) (drop (k + 1) p))) here ∙ sym (walk_more s p k lt) ∙ so_far
 
 -- what is seen in the directory at a name decides the error before a symlink, or what follows does

@@ -1,5 +1,4 @@
 -- The errors of paths and layers as those of a file call.
--- Cited by `FsError as From<LayerError>`, `FsError as From<PathError>`.
 use Rattle.std.specs.Prelude.{◌≡◌}
 use Rattle.snap_path.specs.Memory.{no_memory}
 use Rattle.snap_path.specs.declared.name.PathError.{PathError}

@@ -1,23 +1,16 @@
 -- The names in a directory (readdir(3); overlayfs.rst, "readdir").
--- Cited by `Stack::list`, `Stack::has_names`, `Stack::taken` and others.
 use Rattle.std.specs.Prelude.{◌≡◌, ℕ, List, [], ◌∷◌, ◌++◌, filter, Option, Some, None, is_some, Result, Ok, Err}
-use Rattle.std.specs.declared.cmp.Ordering.{Ordering}
-use Rattle.std.specs.Ordering.{nat_cmp}
-use Rattle.std.specs.Cmp.Lexicographic.{slice_cmp}
 use Rattle.std.specs.BTreeSet.{insert_key}
 use Rattle.std.specs.List.{list_any}
 use Rattle.std.specs.List.Sorted.{IsStrictlySortedBy}
 use Rattle.std.specs.Str.{bytes_eq}
 use Rattle.snap_path.specs.Text.{Names}
+use Rattle.snap_layer.specs.Rows.{name_cmp}
 use Rattle.snap_layer.specs.Tree.{Tree, names_below}
 use Rattle.snap_merge.specs.declared.error.FsError.{FsError}
 use Rattle.snap_merge.specs.declared.error.FsError.TheVariants.{NotFound, NotDir}
 use Rattle.snap_merge.specs.Objects.{Object, dir, seen}
-use Rattle.snap_merge.specs.Walk.{walk, unless}
-
--- names are ordered by their bytes
-abbrev pub name_cmp : List ℕ → List ℕ → Ordering
-name_cmp = slice_cmp nat_cmp
+use Rattle.snap_merge.specs.Walk.{walk_error, unless}
 
 -- the names, and these ones at their places in the order, each once
 abbrev pub put_names : Names → Names → Names
@@ -41,7 +34,7 @@ names_of s p (Some other) = Err NotDir
 
 -- the walk's error, or the names in the directory, or why there are none
 abbrev pub listing : List Tree → Names → Result Names FsError
-listing s p = unless (walk s p) (names_of s p (seen s p))
+listing s p = unless (walk_error s p) (names_of s p (seen s p))
 
 -- exactly the names at which something is seen in the directory, each once and in byte order
 pub record IsListing (s : List Tree) (p ns : Names) : Type 0 where

@@ -1,5 +1,4 @@
 -- What a stack of layers shows at a path (overlayfs.rst).
--- Cited by `show_are_layers`, `is_dir`, `hides` and others.
 use Rattle.std.specs.Prelude.{ℕ, Bool, true, false, List, [], ◌∷◌, Option, Some, None, if◌then◌else◌}
 use Rattle.snap_path.specs.Text.{Names}
 use Rattle.snap_layer.specs.declared.content.Content.{Content}

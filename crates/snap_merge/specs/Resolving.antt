@@ -1,5 +1,4 @@
 -- Following symlinks (path_resolution(7), symlink(7)).
--- Cited by `Stack::resolve`, `Active::resolve`, `Viewed::resolve` and others.
 use Rattle.std.specs.Prelude.{◌==◌, ◌||◌, ℕ, zero, suc, Bool, true, false, not, nat_lt, List, [], ◌∷◌, ◌++◌, length, Option, Some, None, unwrap_or, if◌then◌else◌, Result, Ok, Err}
 use Rattle.std.specs.List.{slice_split}
 use Rattle.std.specs.Str.{bytes_eq}

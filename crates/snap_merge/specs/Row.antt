@@ -1,5 +1,4 @@
 -- The directories of the layers that share in a path, from which what is below it is asked name by name.
--- Cited by invariants and private clauses alone.
 use Rattle.std.specs.Prelude.{ℕ, zero, suc, Bool, false, ◌||◌, if◌then◌else◌, List, [], ◌∷◌, ◌++◌, filter, Option, Some, None, is_some, option_and_then}
 use Rattle.std.specs.List.{flat_map}
 use Rattle.snap_path.specs.Text.{Names}

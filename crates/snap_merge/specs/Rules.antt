@@ -1,12 +1,11 @@
 -- The rules of overlayfs.rst, which `seen` keeps.
--- Cited by `hides`, `Stack::resolve`, `Active::resolve` and others.
 use Rattle.std.specs.Prelude.{◌≡◌, ◌↔◌, ℕ, Bool, true, false, List, [], ◌∷◌, ◌++◌, Some, None, Ok}
 use Rattle.snap_path.specs.Text.{Names}
 use Rattle.snap_layer.specs.declared.node.Node.{Node}
 use Rattle.snap_layer.specs.declared.node.Node.TheVariants.{Dir, Whiteout}
 use Rattle.snap_layer.specs.Tree.{Tree, at, hides, node_hides}
 use Rattle.snap_merge.specs.Objects.{dir, shown, seen, is_shown_dir}
-use Rattle.snap_merge.specs.Walk.{walk}
+use Rattle.snap_merge.specs.Walk.{walk_error}
 use Rattle.snap_merge.specs.Resolving.{is_shown_end, resolution}
 
 -- somewhere above the path stands what hides it: a whiteout, a file, a symlink or an opaque directory
@@ -37,6 +36,6 @@ pub record LayerRules (t : Tree) (p : Names) : Type 0 where
 -- what resolving a path means
 pub record ResolvingRules (s : List Tree) (p : Names) : Type 0 where
   -- a path on which no symlink is leads to itself
-  pub plain : walk s p ≡ None → is_shown_end (seen s p) ≡ true → resolution s p ≡ Ok p
+  pub plain : walk_error s p ≡ None → is_shown_end (seen s p) ≡ true → resolution s p ≡ Ok p
   -- where a directory is seen at the root, a path leads to a directory or a file, and to no symlink
   pub ends : (q : Names) → is_shown_dir (seen s []) ≡ true → resolution s p ≡ Ok q → is_shown_end (seen s q) ≡ true

@@ -1,5 +1,4 @@
 -- What is taken by what is seen at and below a path (du(1)).
--- Cited by `Stack::taken`, `pibroulez_run`, `Runner::new` and others.
 use Rattle.std.specs.Prelude.{ℕ, zero, suc, ◌+◌, min, if◌then◌else◌, List, [], ◌∷◌, ◌++◌, length, Option, Some, None, Result, Ok, Err}
 use Rattle.std.specs.declared.cmp.Ordering.{Ordering}
 use Rattle.std.specs.Ordering.{nat_cmp, ordering_then}
@@ -19,7 +18,7 @@ use Rattle.snap_merge.specs.declared.taken.Part.{Part}
 use Rattle.snap_merge.specs.declared.taken.Part.TheVariants as parts
 use Rattle.snap_merge.specs.Objects.{Object, seen}
 use Rattle.snap_merge.specs.Listing.{names}
-use Rattle.snap_merge.specs.Walk.{walk, unless}
+use Rattle.snap_merge.specs.Walk.{walk_error, unless}
 
 -- the file or symlink that has the number in the layer at a place from the top, with its blocks
 abbrev pub file_at : ℕ → Tree → ℕ → Part
@@ -74,14 +73,14 @@ abbrev pub capped : ℕ → ℕ
 capped n = min n 18446744073709551615
 
 -- a block and an inode for each directory, an inode for each file and each symlink, and the blocks of each file
-abbrev pub taken_by : List Part → Usage
-taken_by ps = record { blocks = capped (dirs ps + sum_by (λ f. f.blocks) (files ps [])); inodes = capped (dirs ps + length (files ps [])) }
+abbrev pub usage_of_parts : List Part → Usage
+usage_of_parts ps = record { blocks = capped (dirs ps + sum_by (λ f. f.blocks) (files ps [])); inodes = capped (dirs ps + length (files ps [])) }
 
 -- what is seen at a path, or why nothing is counted; a path has at most 2,047 names (PATH_MAX)
 abbrev pub taken_of : List Tree → Names → Option Object → Result Usage FsError
 taken_of s p None = Err NotFound
-taken_of s p (Some o) = Ok (taken_by (parts_below 2048 s p))
+taken_of s p (Some o) = Ok (usage_of_parts (parts_below 2048 s p))
 
 -- the walk's error, or what is taken at and below the path, or that nothing is seen there
-abbrev pub taken : List Tree → Names → Result Usage FsError
-taken s p = unless (walk s p) (taken_of s p (seen s p))
+abbrev pub disk_usage : List Tree → Names → Result Usage FsError
+disk_usage s p = unless (walk_error s p) (taken_of s p (seen s p))

@@ -1,5 +1,4 @@
 -- The walk to a path: each directory above it has to be seen (path_resolution(7)). No symlink is followed.
--- Cited by `Stack::walk`, `Stack::walk_to`, `Stack::read` and others.
 use Rattle.std.specs.Prelude.{◌≡◌, ◌⊎◌, List, [], ◌∷◌, ◌++◌, Option, Some, None, Result, Ok, Err}
 use Rattle.snap_path.specs.Memory.{no_memory}
 use Rattle.snap_path.specs.Text.{Names}
@@ -20,8 +19,8 @@ walk_from s front [] = None
 walk_from s front (n ∷ rest) = walk_on (seen s front) (walk_from s (front ++ n ∷ []) rest)
 
 -- the first error at the proper prefixes of the path, from the root on
-abbrev pub walk : List Tree → Names → Option FsError
-walk s p = walk_from s [] p
+abbrev pub walk_error : List Tree → Names → Option FsError
+walk_error s p = walk_from s [] p
 
 -- the first error, or else what follows
 abbrev pub unless : {A : Type 0} → Option FsError → Result A FsError → Result A FsError

@@ -1,6 +1,7 @@
 // What is seen at a path: what one layer says of it, and the lower layers one after another.
 ghost use Rattle.std.specs.Prelude.{◌≡◌, ◌≤◌, ◌+◌, List, length, MatchOption};
 ghost use Rattle.std.specs.Option.{option_map};
+ghost use Rattle.snap_layer.specs.Layers.{IsLayer};
 ghost use Rattle.snap_layer.specs.Tree.{Tree, body, hides, node_hides};
 ghost use Rattle.snap_merge.specs.Objects.{object, shown, shown_body, is_shown_dir, AreLayers};
 ghost use Rattle.snap_merge.specs.Reach.{Begun, Reached, Steps, Traced};
@@ -83,7 +84,6 @@ pub(crate) fn step_through<'a>(layer: &'a Layer, names: &[Name], dirs: usize) ->
     requires { dirs ≤ length names.now }
     ensures { Steps layer.now names.now dirs result }
 {
-    let _ = &layer.is_layer;
     let trace = trace_in(layer, names);
     if trace.dirs < dirs {
         if trace.hidden || node_hides(trace.node) {
@@ -108,6 +108,7 @@ pub(crate) fn step_through<'a>(layer: &'a Layer, names: &[Name], dirs: usize) ->
 fn trace_in<'a>(layer: &'a Layer, names: &[Name]) -> Trace<'a>
     ensures traced { Traced layer.now names.now result.dirs result.node result.hidden }
     ensures dir { MatchOption result.dir (result.dirs ≤ length names.now) (λ d. (d ≡ record { layer = layer.now; path = names.now }) × (result.dirs ≡ length names.now + 1)) }
+    ensures layer { IsLayer layer.now }
 {
     let mut dir = layer.root_dir();
     let mut node = dir.node();
@@ -150,8 +151,8 @@ pub(crate) fn share_in<'a>(layer: &'a Layer, names: &[Name]) -> Share<'a>
     ensures shares { Shares layer.now names.now result.dir result.hides }
     ensures dir { result.dir ≡ dir_at layer.now names.now }
     ensures hides { result.hides ≡ hides_inside layer.now names.now }
+    ensures layer { IsLayer layer.now }
 {
-    let _ = &layer.is_layer;
     let trace = trace_in(layer, names);
     let hides = trace.hidden | node_hides(trace.node);
     Share {
@@ -166,7 +167,7 @@ pub fn show_are_layers(lowers: &[Shared])
     ensures { AreLayers lowers.now }
 {
     for shared in lowers {
-        let _ = &shared.is_layer;
+        shared.layer();
     }
 }
 
@@ -194,7 +195,6 @@ pub fn hides(layer: &Layer, path: &Path) -> bool
 fn hides_names(layer: &Layer, names: &[Name]) -> bool
     ensures { result ≡ hides layer.now names.now }
 {
-    let _ = &layer.is_layer;
     let trace = trace_in(layer, names);
     if trace.hidden {
         return true;

@@ -21,7 +21,6 @@ pub(crate) fn put_layer(
 ) -> Result<bool, AllocError>
     ensures { IfOk result (λ on. (n : List ℕ) (under : Option Object) → seen_so_far shown.new.keys gone.new.keys n (on && is_some under) ≡ seen_so_far shown.old.keys gone.old.keys n (is_some (seen_over layer.now (at layer.now (path.now ++ n ∷ [])) (path.now ++ n ∷ []) under))) }
 {
-    let _ = &layer.is_layer;
     let share = share_in(layer, path.names());
     if let Some(dir) = &share.dir {
         put_dir(shown, gone, dir, dir.children()?)?;

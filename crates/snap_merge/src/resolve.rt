@@ -1,21 +1,23 @@
 // Where a path leads when its symlinks are followed.
-ghost use Rattle.std.specs.Prelude.{◌≡◌, ◌≤◌, ◌∷◌, ◌++◌, [], ℕ, List, map, MatchOption, IfOk, OnOk, false, length, Some, None, if◌then◌else◌};
+ghost use Rattle.std.specs.Prelude.{◌≡◌, ◌≤◌, ◌<◌, ◌∷◌, ◌++◌, [], ℕ, List, map, MatchOption, IfOk, IfErr, OnOk, true, false, length, take, Some, None, if◌then◌else◌};
 ghost use Rattle.std.specs.Option.{option_map};
 ghost use Rattle.std.specs.Result.{result_err};
 ghost use Rattle.std.specs.Borrow.{Bor};
 ghost use Rattle.snap_path.specs.Limits.{most_path_bytes};
-ghost use Rattle.snap_path.specs.Text.{Names, text_below};
-ghost use Rattle.snap_merge.specs.Objects.{object, seen};
+ghost use Rattle.snap_path.specs.Text.{IsPath, Names, text_below};
+ghost use Rattle.snap_path.specs.Memory.{no_memory};
+ghost use Rattle.snap_layer.specs.Tree.{Tree};
+ghost use Rattle.snap_merge.specs.Objects.{object, seen, is_shown_dir};
 ghost use Rattle.snap_merge.specs.Walk.{Answers};
 ghost use Rattle.snap_merge.specs.Resolving.{Answer, is_here, is_above, is_too_long, start_of, words_of, entered, way, met, plain_error, resolution};
-ghost use Rattle.snap_merge.specs.Arrivals.{Leads, Ends};
+ghost use Rattle.snap_merge.specs.Arrivals.{Leads, Ends, TakesAlong};
 
 use super::error::FsError;
 use super::look::Seen;
 use super::stack::Stack;
 use smallvec::SmallVec;
 use snap_path::limits::{MAX_LINKS, MAX_NAME_BYTES, MAX_PATH_BYTES};
-use snap_path::{Name, Path};
+use snap_path::{Name, Path, PathError};
 use std::alloc::{AllocError, Global};
 use std::marker::Model;
 
@@ -34,7 +36,8 @@ pub(crate) enum Arrival<'a> {
 /// Meets the path's names one after another, as far as no symlink is seen, and answers the first error. It
 /// takes no memory.
 pub(crate) fn check_plain(stack: &Stack<'_>, path: &Path) -> Result<(), FsError>
-    ensures { result_err result ≡ plain_error stack.now [] path.now }
+    ensures plain { result_err result ≡ plain_error stack.now [] path.now }
+    ensures path { IsPath path.now }
 {
     let names = path.names();
     if names.is_empty() {
@@ -86,10 +89,57 @@ pub(crate) fn resolve(stack: &Stack<'_>, alloc: Global, path: &Path) -> Result<P
                 }
                 links -= 1;
                 words.put_target(alloc, target)?;
-                place = start_of(alloc, directory, target);
+                place = leap(stack, alloc, start_of(alloc, directory, target), &mut words)?;
             }
         }
     }
+}
+
+/// Goes on from the place by the names that come next, as far as they lead through directories: where the way has
+/// many words one look says so.
+fn leap(
+    stack: &Stack<'_>,
+    alloc: Global,
+    place: Path,
+    words: &mut Words<'_>,
+) -> Result<Path, FsError>
+    ensures ok { IfOk result (λ p. (follow : Names → Names → Answer) → way follow stack.now p words.new ≡ way follow stack.now place words.old) }
+    ensures err { IfErr result (λ e. e ≡ FsError.OutOfMemory no_memory) }
+{
+    if words.len() <= INLINE_WORDS {
+        return Ok(place);
+    }
+    let text = words.text_from(alloc, &place)?;
+    let path = match Path::parse(alloc, &text) {
+        Ok(path) => path,
+        Err(PathError::BadPath) => return Ok(place),
+        Err(PathError::OutOfMemory(no_memory)) => return Err(FsError::OutOfMemory(no_memory)),
+    };
+    if !path.begins(&place) {
+        return Ok(place);
+    }
+    let reach = stack.reach(path.names());
+    let names = follow_names(words, &path, place.names().len(), reach.dirs);
+    Ok(path.front(names)?)
+}
+
+/// Takes the words that go on from the path's first names by those that come next, as long as the path leads through
+/// directories, and those that stand for a directory itself. Gives to how many of the names they lead.
+fn follow_names(words: &mut Words<'_>, path: &Path, from: usize, dirs: usize) -> usize
+    requires { from ≤ length path.now }
+    ensures few { result ≤ length path.now }
+    ensures way { (s : List Tree) → ((j : ℕ) → j < dirs → is_shown_dir (seen s (take j path.now)) ≡ true) → (follow : Names → Names → Answer) → way follow s (take result path.now) words.new ≡ way follow s (take from path.now) words.old }
+{
+    let names = path.names();
+    let most = names.len().min(dirs.saturating_sub(1));
+    let mut at = from;
+    while at < most {
+        match words.take_along(&names[at]) {
+            Some(is_name) => at += usize::from(is_name),
+            None => return at,
+        }
+    }
+    at
 }
 
 /// Where a symlink in the directory leads from.
@@ -239,6 +289,42 @@ impl<'w> Words<'w> {
         Some(word)
     }
 
+    /// How many there are.
+    pub(crate) fn len(&self) -> usize {
+        self.parts.len() - self.next
+    }
+
+    /// The place's text with the words at the front that are names or stand for the directory itself.
+    pub(crate) fn text_from(&self, alloc: Global, place: &Path) -> Result<String, AllocError> {
+        let mut text = String::new(alloc);
+        if !place.names().is_empty() {
+            text.push_str(place.as_str())?;
+        }
+        for word in &self.parts.as_slice()[self.next..] {
+            put_word(&mut text, *word)?;
+            if is_above(*word) {
+                return Ok(text);
+            }
+        }
+        Ok(text)
+    }
+
+    /// Takes the next word where it is the name, and says so, or where it stands for the directory itself.
+    pub(crate) fn take_along(&mut self, name: &Name) -> Option<bool>
+        ensures { MatchOption result (self.new ≡ self.old) (λ is_name. TakesAlong name.now is_name self.old self.new) }
+    {
+        let word = *self.parts.as_slice().get(self.next)?;
+        if is_here(word) {
+            self.next += 1;
+            return Some(false);
+        }
+        if word == name.as_str().as_bytes() {
+            self.next += 1;
+            return Some(true);
+        }
+        None
+    }
+
     /// Puts the words of a symlink's target before the others.
     pub(crate) fn put_target(&mut self, alloc: Global, target: &'w [u8]) -> Result<(), AllocError>
         ensures { OnOk result (self.new ≡ words_of target.now ++ self.old) }
@@ -248,6 +334,18 @@ impl<'w> Words<'w> {
         *self = Words { parts, next: 0 };
         Ok(())
     }
+}
+
+/// Puts the word last after a `/`, where it is a name's text.
+fn put_word(text: &mut String, word: &[u8]) -> Result<(), AllocError> {
+    if is_here(word) | is_above(word) {
+        return Ok(());
+    }
+    if let Ok(word) = str::from_utf8(word) {
+        text.push('/')?;
+        text.push_str(word)?;
+    }
+    Ok(())
 }
 
 /// The words of a symlink's target.

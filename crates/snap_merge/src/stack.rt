@@ -3,10 +3,10 @@ ghost use Rattle.std.specs.Option.{option_map};
 ghost use Rattle.snap_path.specs.Memory.{no_memory};
 ghost use Rattle.snap_merge.specs.Objects.{object, seen, is_shown_dir, AreLayers};
 ghost use Rattle.snap_merge.specs.Shares.{has};
-ghost use Rattle.snap_merge.specs.Walk.{walk, Answers};
+ghost use Rattle.snap_merge.specs.Walk.{walk_error, Answers};
 ghost use Rattle.snap_merge.specs.Reach.{Reached};
 ghost use Rattle.snap_merge.specs.Reading.{reading};
-ghost use Rattle.snap_merge.specs.Listing.{gathered, names, listing, put_names, IsListing};
+ghost use Rattle.snap_merge.specs.Listing.{names, listing, IsListing};
 ghost use Rattle.snap_merge.specs.Resolving.{is_too_long, plain_error, resolution};
 ghost use Rattle.snap_merge.specs.Rules.{ResolvingRules};
 ghost use Rattle.snap_path.specs.Text.{IsPath};
@@ -103,7 +103,7 @@ impl<'a> Stack<'a> {
         ensures { AreLayers self.now }
     {
         if let Some(top) = self.top {
-            let _ = &top.is_layer;
+            top.root_dir();
         }
         show_are_layers(self.lowers);
     }
@@ -116,10 +116,10 @@ impl<'a> Stack<'a> {
     /// of a look.
     #[tactic(auto, using(crate::proofs::Above::walk_to_seen))]
     pub fn walk(&self, path: &Path) -> Result<(), FsError>
-        ensures ok { OnOk result (walk self.now path.now ≡ None) }
-        ensures err { IfErr result (λ e. walk self.now path.now ≡ Some e) }
+        ensures ok { OnOk result (walk_error self.now path.now ≡ None) }
+        ensures err { IfErr result (λ e. walk_error self.now path.now ≡ Some e) }
         // What is seen lies in directories that are seen.
-        ensures reached { IsSome (seen self.now path.now) → walk self.now path.now ≡ None }
+        ensures reached { IsSome (seen self.now path.now) → walk_error self.now path.now ≡ None }
         // Each layer is one by `IsLayer`, and this call says so to a caller.
         ensures layers { AreLayers self.now }
     {
@@ -132,8 +132,8 @@ impl<'a> Stack<'a> {
     ///
     /// Errors and cost are those of `walk`. Takes no memory.
     pub fn walk_to(&self, path: &Path) -> Result<Option<Seen<'a>>, FsError>
-        ensures ok { IfOk result (λ o. (walk self.now path.now ≡ None) × (option_map object o ≡ seen self.now path.now)) }
-        ensures err { IfErr result (λ e. walk self.now path.now ≡ Some e) }
+        ensures ok { IfOk result (λ o. (walk_error self.now path.now ≡ None) × (option_map object o ≡ seen self.now path.now)) }
+        ensures err { IfErr result (λ e. walk_error self.now path.now ≡ Some e) }
         // Each layer is one by `IsLayer`, and this call says so to a caller.
         ensures layers { AreLayers self.now }
     {
@@ -217,18 +217,6 @@ impl<'a> Stack<'a> {
         Ok(shown)
     }
 
-    /// The names that the layers have in the directory, whiteouts among them.
-    fn gathered(&self, alloc: Global, path: &Path) -> Result<BTreeSet<Name>, AllocError>
-        ensures { IfOk result (λ all. all.keys ≡ gathered self.now path.now []) }
-    {
-        let mut all = BTreeSet::new(alloc);
-        if let Some(top) = self.top {
-            put_names(&mut all, top.children(path)?)?;
-        }
-        gather(&mut all, self.lowers, path)?;
-        Ok(all)
-    }
-
     /// Whether something is seen in the directory at the path under some name: `false` where the directory is empty,
     /// and where none is seen.
     ///
@@ -260,10 +248,11 @@ impl<'a> Stack<'a> {
     ///
     /// Word by word, and in this order: `NotDir` where the way goes on from something else than a
     /// directory; `BadPath` where the word has more than 255 bytes, or the path with it more than 4095;
-    /// `NotFound` where nothing is seen; `TooManyLinks` at the 41st symlink. `OutOfMemory` where memory
+    /// `NotFound` where nothing is seen, as under a word that is no UTF-8; `TooManyLinks` at the 41st symlink. `OutOfMemory` where memory
     /// for names, words or paths is refused, but not for an error before the first symlink. Cost: that of two looks
     /// at the path, and its bytes; for each word from the first on that leads to no directory, that of two looks and
-    /// the bytes of the path so far, and for one that is no UTF-8 text the names that the layers have in the directory.
+    /// the bytes of the path so far. Behind a symlink, where more than 16 words are left, the names that come next cost
+    /// one look and their bytes together, as far as they lead through directories.
     pub fn resolve(&self, alloc: Global, path: &Path) -> Result<Path, FsError>
         ensures answer { Answers (resolution self.now path.now) result }
         // Want of memory never stands for an error before the first symlink.
@@ -272,7 +261,6 @@ impl<'a> Stack<'a> {
         ensures rules { ResolvingRules self.now path.now }
     {
         self.show_are_layers();
-        let _ = path.names();
         check_plain(self, path)?;
         resolve(self, alloc, path)
     }
@@ -284,7 +272,8 @@ impl<'a> Stack<'a> {
         is_dir(self.look(path))
     }
 
-    /// The path of the directory's entry of this name, where something may be seen.
+    /// The path of the directory's entry of this name, where something may be seen: no layer has a name that is no
+    /// UTF-8.
     pub(crate) fn entry(
         &self,
         alloc: Global,
@@ -295,9 +284,10 @@ impl<'a> Stack<'a> {
         ensures ok { IfOk result (λ o. MatchOption o (seen self.now (directory.now ++ word.now ∷ []) ≡ None) (λ p. p ≡ directory.now ++ word.now ∷ [])) }
         ensures err { IfErr result (λ e. e ≡ FsError.OutOfMemory no_memory) }
     {
+        self.show_are_layers();
         match str::from_utf8(word) {
             Ok(text) => self.entry_named(alloc, directory, text),
-            Err(_) => self.entry_among(alloc, directory, word),
+            Err(_) => Ok(None),
         }
     }
 
@@ -309,58 +299,15 @@ impl<'a> Stack<'a> {
         directory: &Path,
         name: &str,
     ) -> Result<Option<Path>, FsError>
-        requires { is_too_long directory.now name.now ≡ false }
+        requires layers { AreLayers self.now }
+        requires short { is_too_long directory.now name.now ≡ false }
         ensures ok { IfOk result (λ o. MatchOption o (seen self.now (directory.now ++ name.now ∷ []) ≡ None) (λ p. p ≡ directory.now ++ name.now ∷ [])) }
         ensures err { IfErr result (λ e. e ≡ FsError.OutOfMemory no_memory) }
     {
-        self.show_are_layers();
         match Name::parse(alloc, name) {
             Ok(name) => Ok(Some(directory.join(&name)?)),
             Err(PathError::BadPath) => Ok(None),
             Err(PathError::OutOfMemory(no_memory)) => Err(FsError::OutOfMemory(no_memory)),
         }
     }
-
-    /// The same of any word, among the names that the layers have in the directory.
-    fn entry_among(
-        &self,
-        alloc: Global,
-        directory: &Path,
-        word: &[u8],
-    ) -> Result<Option<Path>, FsError>
-        requires { is_too_long directory.now word.now ≡ false }
-        ensures ok { IfOk result (λ o. MatchOption o (seen self.now (directory.now ++ word.now ∷ []) ≡ None) (λ p. p ≡ directory.now ++ word.now ∷ [])) }
-        ensures err { IfErr result (λ e. e ≡ FsError.OutOfMemory no_memory) }
-    {
-        for name in self.gathered(alloc, directory)? {
-            if name.as_str().as_bytes() == word {
-                return Ok(Some(directory.join(&name)?));
-            }
-        }
-        Ok(None)
-    }
-}
-
-/// Puts the names among the others, each once.
-pub(crate) fn put_names(all: &mut BTreeSet<Name>, names: Vec<Name>) -> Result<(), AllocError>
-    ensures { OnOk result (all.new.keys ≡ put_names names.items all.old.keys) }
-{
-    for name in names {
-        all.insert(name)?;
-    }
-    Ok(())
-}
-
-/// Puts the names that the layers have in the directory among the others, whiteouts too.
-pub(crate) fn gather(
-    all: &mut BTreeSet<Name>,
-    lowers: &[Shared],
-    path: &Path,
-) -> Result<(), AllocError>
-    ensures { OnOk result (all.new.keys ≡ gathered lowers.now path.now all.old.keys) }
-{
-    for shared in lowers {
-        put_names(all, shared.layer().children(path)?)?;
-    }
-    Ok(())
 }

@@ -5,7 +5,7 @@ ghost use Rattle.snap_path.specs.Memory.{no_memory};
 ghost use Rattle.snap_merge.specs.declared.error.FsError.TheVariants as errors;
 ghost use Rattle.snap_merge.specs.declared.taken.Part.{Part as PartValue};
 ghost use Rattle.snap_merge.specs.Row.{part_in, part_over_dir, parts_in, row_at};
-ghost use Rattle.snap_merge.specs.Taken.{capped, dirs, file_at, files, part, part_of, parts_below, taken, taken_by, with_inside};
+ghost use Rattle.snap_merge.specs.Taken.{capped, dirs, file_at, files, part, part_of, parts_below, disk_usage, usage_of_parts, with_inside};
 
 use crate::error::FsError;
 use crate::look::hides;
@@ -126,7 +126,7 @@ fn blocks_and(blocks: u64, files: &BTreeSet<FileAt>) -> u64
 
 /// What the parts take.
 fn taken_by(alloc: Global, parts: &[Part]) -> Result<Usage, AllocError>
-    ensures { IfOk result (λ usage. usage ≡ taken_by parts.now) }
+    ensures { IfOk result (λ usage. usage ≡ usage_of_parts parts.now) }
 {
     let files = files(alloc, parts)?;
     let dirs = dirs(parts);
@@ -162,10 +162,10 @@ impl<'a> Stack<'a> {
     /// names; for each name that is seen the logarithm of a directory's entries, at most twice in each layer that has
     /// the directory, and the logarithm of the number of files.
     pub fn taken(&self, alloc: Global, path: &Path) -> Result<Usage, FsError>
-        ensures ok { IfOk result (λ usage. taken self.now path.now ≡ Ok usage) }
-        ensures err { IfErr result (λ e. (e ≡ errors.OutOfMemory no_memory) ⊎ (taken self.now path.now ≡ Err e)) }
+        ensures ok { IfOk result (λ usage. disk_usage self.now path.now ≡ Ok usage) }
+        ensures err { IfErr result (λ e. (e ≡ errors.OutOfMemory no_memory) ⊎ (disk_usage self.now path.now ≡ Err e)) }
         // Want of memory never stands for another error.
-        ensures first { IfErr (taken self.now path.now) (λ e. result ≡ Err e) }
+        ensures first { IfErr (disk_usage self.now path.now) (λ e. result ≡ Err e) }
     {
         match self.walk_to(path)? {
             Some(_) => self.taken_below(alloc, path),
@@ -175,7 +175,7 @@ impl<'a> Stack<'a> {
 
     /// The same where something is seen.
     fn taken_below(&self, alloc: Global, path: &Path) -> Result<Usage, FsError>
-        ensures ok { IfOk result (λ usage. usage ≡ taken_by (parts_below 2048 self.now path.now)) }
+        ensures ok { IfOk result (λ usage. usage ≡ usage_of_parts (parts_below 2048 self.now path.now)) }
         ensures err { IfErr result (λ e. e ≡ errors.OutOfMemory no_memory) }
     {
         let mut parts = Vec::new(alloc);

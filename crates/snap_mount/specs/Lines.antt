@@ -1,5 +1,4 @@
 -- A mount as arguments of mount(8).
--- Cited by `Mount as Display`.
 use Rattle.std.specs.Prelude.{List, [], ◌∷◌, ◌++◌, flat_map, codes}
 use Rattle.snap_mount.specs.declared.mount.Mount.{Mount}
 use Rattle.snap_record.specs.Labels.{Bytes}

@@ -1,5 +1,4 @@
 -- How a snapshot is mounted, by its kind and its ancestors.
--- Cited by `MountKind::as_str`, `MountKind as Display`, `Mount as Display` and others.
 use Rattle.std.specs.Prelude.{ℕ, ◌==◌, nat_le, not, Bool, false, ◌&&◌, List, [], ◌∷◌, ◌++◌, length, flat_map, codes, decimal}
 use Rattle.std.specs.List.{list_any}
 use Rattle.snap_record.specs.Labels.{Bytes}

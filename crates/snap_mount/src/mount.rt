@@ -1,6 +1,6 @@
 // A mount, and its line for mount(8).
 ghost use Rattle.std.specs.Prelude.{◌≡◌, ◌++◌, Some, codes, flat_map};
-ghost use Rattle.std.specs.Fmt.{padded};
+ghost use Rattle.std.specs.Fmt.{padded, WritesStyledOnOk};
 ghost use Rattle.snap_mount.specs.Lines.{joined_options, mount_line};
 ghost use Rattle.snap_mount.specs.Mounts.{mount_kind_word};
 
@@ -75,47 +75,42 @@ impl fmt::Display for MountKind {
 }
 
 /// The arguments of mount(8) but the mount point: `-t <kind> -o <options> <source>`, with the
-/// options joined by `,`.
+/// options joined by `,`. A width, a fill and a precision change nothing.
 ///
 /// For people who look at a mount: nothing is quoted for a shell.
 impl fmt::Display for Mount {
     ghost output = { λ mount. Some (mount_line mount) };
 
+    ghost styled_output = { λ mount style. Some (mount_line mount) };
+
     fn fmt<W: fmt::Write>(&self, f: &mut fmt::Formatter<W>) -> fmt::Result {
-        let kind = self.kind;
-        let options = Options(self.options.as_slice());
-        let source = self.source.as_str();
-        write!(f, "-t {kind} -o {options} {source}")
+        f.write_str("-t ")?;
+        f.write_str(self.kind.as_str())?;
+        f.write_str(" -o ")?;
+        write_options(f, self.options.as_slice())?;
+        f.write_str(" ")?;
+        f.write_str(self.source.as_str())
     }
 }
 
-#[derive(Clone, Copy)]
-struct Options<'a>(&'a [Text]);
-
-impl fmt::Display for Options<'_> {
-    ghost output = { λ options. Some (joined_options options.0.now) };
-
-    fn fmt<W: fmt::Write>(&self, f: &mut fmt::Formatter<W>) -> fmt::Result {
-        match self.0 {
-            [] => Ok(()),
-            [first, rest @ ..] => {
-                let rest = FurtherOptions(rest);
-                write!(f, "{first}{rest}")
-            }
+fn write_options<W: fmt::Write>(f: &mut fmt::Formatter<W>, options: &[Text]) -> fmt::Result
+    ensures { WritesStyledOnOk W.write_str_gives f.old result (joined_options options.now) f.new }
+{
+    match options {
+        [] => Ok(()),
+        [first, rest @ ..] => {
+            f.write_str(first.as_str())?;
+            write_further(f, rest)
         }
     }
 }
 
-#[derive(Clone, Copy)]
-struct FurtherOptions<'a>(&'a [Text]);
-
-impl fmt::Display for FurtherOptions<'_> {
-    ghost output = { λ options. Some (flat_map (λ option. codes "," ++ option) options.0.now) };
-
-    fn fmt<W: fmt::Write>(&self, f: &mut fmt::Formatter<W>) -> fmt::Result {
-        for option in self.0 {
-            write!(f, ",{option}")?;
-        }
-        Ok(())
+fn write_further<W: fmt::Write>(f: &mut fmt::Formatter<W>, options: &[Text]) -> fmt::Result
+    ensures { WritesStyledOnOk W.write_str_gives f.old result (flat_map (λ option. codes "," ++ option) options.now) f.new }
+{
+    for option in options {
+        f.write_str(",")?;
+        f.write_str(option.as_str())?;
     }
+    Ok(())
 }

@@ -46,9 +46,9 @@ pub text_below-slice_split : (bs : List ℕ) → text_below (slice_split (λ b. 
 text_below-slice_split [] = refl
 text_below-slice_split (x ∷ xs) = by_head x xs (slice_split (λ b. b == 47) xs) (text_below-slice_split xs) (x == 47) refl
 
-pub name_test : (a b c d e : Bool) → a ≡ true → b ≡ true → d ≡ false → e ≡ false → c ≡ (a && b && c && not d && not e)
-name_test a b true d e h k l m = grind (arith, nat_tests)
-name_test a b false d e h k l m = grind (arith, nat_tests)
+pub name_test : (a b c d e f : Bool) → a ≡ true → b ≡ true → d ≡ false → e ≡ false → f ≡ true → c ≡ (a && b && c && not d && not e && f)
+name_test a b true d e f h k l m o = grind (arith, nat_tests)
+name_test a b false d e f h k l m o = grind (arith, nat_tests)
 
 -- what the test tells of a path that is not the root
 pub record IsBelowRoot (bs : List ℕ) : Type 0 where

@@ -1,5 +1,4 @@
 -- The limits of paths, files and numbers, each with its source.
--- Cited by `Path::parse`, `Path::names`, `Path::as_str` and others.
 use Rattle.std.specs.Prelude.{ℕ}
 
 -- the most bytes of a path's text: PATH_MAX of limits.h without its closing NUL
@@ -21,6 +20,10 @@ most_file_bytes = 1048576
 -- the most bytes of a regular file whose size alone is kept, 2^40: a limit of this project
 abbrev pub most_sized_bytes : ℕ
 most_sized_bytes = 1099511627776
+
+-- the bytes of a block, in which files are counted: a choice of this project
+abbrev pub block_bytes : ℕ
+block_bytes = 4096
 
 -- the greatest number of a file of a layer, and of a snapshot: the last of u32
 abbrev pub most_number : ℕ

@@ -1,5 +1,4 @@
 -- Want of memory.
--- Cited by `NoMemory as From<AllocError>`, `NoMemory as From<AllocFailed<T>>`, `PathError as From<AllocError>` and others.
 use Rattle.std.specs.Prelude.{alloc_error}
 use Rattle.snap_path.specs.declared.memory.NoMemory.{NoMemory}
 

@@ -1,8 +1,7 @@
 -- The names of a path, and their text.
--- Cited by `Name::parse`, `Name::as_str`, `Path::parse` and others.
 use Rattle.std.specs.Prelude.{take, slice_get, Option, Some, None, ◌-◌, ◌≡◌, ℕ, ◌≤◌, Bool, not, false, ◌&&◌, ◌==◌, nat_lt, nat_le, List, [], ◌∷◌, ◌++◌, length, true}
 use Rattle.std.specs.List.{list_all, slice_split, starts_with}
-use Rattle.std.specs.Str.{bytes_eq}
+use Rattle.std.specs.Str.{bytes_eq, is_utf8}
 use Rattle.snap_path.specs.Limits.{most_path_bytes}
 
 -- a path as its names, from the root down
@@ -13,9 +12,9 @@ Names = List (List ℕ)
 abbrev pub is_name_byte : ℕ → Bool
 is_name_byte b = not (b == 0) && not (b == 47)
 
--- 1 to 255 bytes without NUL and `/`, and neither `.` nor `..`
+-- UTF-8 of 1 to 255 bytes without NUL and `/`, and neither `.` nor `..`
 abbrev pub is_name : List ℕ → Bool
-is_name n = nat_lt 0 (length n) && nat_le (length n) 255 && list_all is_name_byte n && not (bytes_eq n (46 ∷ [])) && not (bytes_eq n (46 ∷ 46 ∷ []))
+is_name n = nat_lt 0 (length n) && nat_le (length n) 255 && list_all is_name_byte n && not (bytes_eq n (46 ∷ [])) && not (bytes_eq n (46 ∷ 46 ∷ [])) && is_utf8 n
 
 -- `/` alone, or `/` and then names separated by one `/`, in 4095 bytes at most
 abbrev pub is_path : List ℕ → Bool

@@ -44,7 +44,7 @@ impl<T: Drop> From<AllocFailed<T>> for PathError {
     }
 }
 
-/// One name of a path: 1 to 255 bytes without NUL and `/`, and neither `.` nor `..`.
+/// One name of a path: UTF-8 of 1 to 255 bytes without NUL and `/`, and neither `.` nor `..`.
 ///
 /// A contract sees it as its bytes. Names are ordered by their bytes. A comparison takes no memory,
 /// and its cost grows with the shorter name. A clone takes memory for the bytes.

@@ -1,6 +1,5 @@
 -- What is kept of texts and labels that are beyond their limits: so much that they are beyond them still.
--- Cited by `Labels::cut`, `Text::cut`, `cut_update` and others.
-use Rattle.std.specs.Prelude.{ℕ, zero, suc, Bool, not, ◌&&◌, nat_le, nat_lt, if◌then◌else◌, [], ◌∷◌, List, find, slice_get}
+use Rattle.std.specs.Prelude.{ℕ, zero, suc, Bool, not, ◌&&◌, nat_le, nat_lt, if◌then◌else◌, [], ◌∷◌, List, find}
 use Rattle.std.specs.List.{list_all}
 use Rattle.std.specs.Option.{option_map_or}
 use Rattle.snap_record.specs.Labels.{Bytes, Label, is_label}
@@ -33,13 +32,12 @@ kept_labels labels = option_map_or cut_label (find (λ l. not (is_label l)) labe
 abbrev pub cut_path : Bytes → List Bytes
 cut_path path = cut 4103 path ∷ []
 
--- the labels and the paths of an update whose labels have their forms: a malformed path alone; or the labels, and the path of all labels where one is among the paths; or both as they are, where what they change is looked for, and else one path
-abbrev pub kept_by_paths : Bool → List Label → List Bytes → List Label × List Bytes
-kept_by_paths sought labels paths =
+-- the labels and the paths of an update whose labels have their forms: a malformed path alone; or the labels, and the path of all labels alone where it is among the paths
+abbrev pub kept_by_paths : List Label → List Bytes → List Label × List Bytes
+kept_by_paths labels paths =
     option_map_or (λ path. ([], cut_path path)) (find (λ path. not (is_update_path path)) paths)
-    (if replaces_all paths then (labels, option_map_or cut_path (find is_whole paths) []) else
-    if sought then (labels, paths) else ([], option_map_or cut_path (slice_get paths 0) []))
+    (if replaces_all paths then (labels, option_map_or cut_path (find is_whole paths) []) else (labels, paths))
 
 -- the labels and the paths of an update: a malformed label alone, without a path, or what stays of paths
-abbrev pub kept_update : Bool → List Label → List Bytes → List Label × List Bytes
-kept_update sought labels paths = if list_all is_label labels then kept_by_paths sought labels paths else (kept_labels labels, [])
+abbrev pub kept_update : List Label → List Bytes → List Label × List Bytes
+kept_update labels paths = if list_all is_label labels then kept_by_paths labels paths else (kept_labels labels, [])

@@ -1,5 +1,4 @@
 -- Which snapshots a filter asks for.
--- Cited by `Filter::clear`, `Record::matches`, `matches` and others.
 use Rattle.std.specs.Prelude.{Bool, true, false, ◌&&◌, Option, None, List, [], bytes_eq}
 use Rattle.std.specs.List.{list_all}
 use Rattle.std.specs.Option.{option_map_or}

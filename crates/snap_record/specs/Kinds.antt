@@ -1,5 +1,4 @@
 -- The kinds of a snapshot.
--- Cited by `Kind::as_str`, `Kind as Display`, `Answer::line` and others.
 use Rattle.std.specs.Prelude.{ℕ, List, codes}
 use Rattle.snap_record.specs.declared.kind.Kind.{Kind}
 use Rattle.snap_record.specs.declared.kind.Kind.TheVariants.{View, Active, Committed}

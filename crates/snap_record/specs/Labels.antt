@@ -1,5 +1,4 @@
 -- Labels as a list of pairs with distinct keys.
--- Cited by `Record::matches`, `matches`, `Labels::insert` and others.
 use Rattle.std.specs.Prelude.{ℕ, ◌+◌, Bool, ◌&&◌, nat_le, nat_lt, if◌then◌else◌, List, [], ◌∷◌, length, Option, bytes_eq}
 use Rattle.std.specs.List.{list_all, list_any, IsDistinct}
 use Rattle.std.specs.Map.{lookup, keys_of, remove_entry}
@@ -13,8 +12,8 @@ abbrev pub Label : Type 0
 Label = Bytes × Bytes
 
 -- whether the key is one of these
-abbrev pub is_among : Bytes → List Bytes → Bool
-is_among key keys = list_any (bytes_eq key) keys
+abbrev pub is_key_among : Bytes → List Bytes → Bool
+is_key_among key keys = list_any (bytes_eq key) keys
 
 -- the value of a key
 abbrev pub value_of : List Label → Bytes → Option Bytes

@@ -1,5 +1,4 @@
 -- What a snapshot's record says of it.
--- Cited by `Record::matches`, `Content::kind`, `Content::usage` and others.
 use Rattle.snap_usage.specs.declared.usage.Usage.{Usage}
 use Rattle.snap_usage.specs.Counted.{no_usage}
 use Rattle.snap_record.specs.declared.info.Info.{Info}

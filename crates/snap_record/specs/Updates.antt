@@ -1,10 +1,9 @@
 -- What an update makes of labels.
--- Cited by `update_labels`, `is_well_formed`, `updated_labels` and others.
 use Rattle.std.specs.Prelude.{Bool, true, false, ◌&&◌, ◌||◌, nat_eq, nat_le, nat_lt, List, [], ◌∷◌, ◌++◌, length, drop, Option, Some, None, is_some, option_map, filter_map, codes, bytes_eq, if◌then◌else◌}
 use Rattle.std.specs.List.{list_all, list_any, starts_with}
 use Rattle.std.specs.Option.{option_map_or}
 use Rattle.std.specs.Map.{keys_of}
-use Rattle.snap_record.specs.Labels.{Bytes, Label, value_of, is_among, is_label}
+use Rattle.snap_record.specs.Labels.{Bytes, Label, value_of, is_key_among, is_label}
 
 -- the path of all labels
 abbrev pub is_whole : Bytes → Bool
@@ -37,12 +36,12 @@ given_label given key = option_map (λ value. (key, value)) (value_of given key)
 
 -- a label that isn't named stays; a named one has the given value in its place, or goes where none is given
 abbrev pub label_after : List Label → List Bytes → Label → Option Label
-label_after given named label = if is_among label.0 named then given_label given label.0 else Some label
+label_after given named label = if is_key_among label.0 named then given_label given label.0 else Some label
 
 -- the keys that aren't there yet, each once
 abbrev pub new_keys : List Bytes → List Bytes → List Bytes
 new_keys there [] = []
-new_keys there (key ∷ keys) = if is_among key there then new_keys there keys else key ∷ new_keys (key ∷ there) keys
+new_keys there (key ∷ keys) = if is_key_among key there then new_keys there keys else key ∷ new_keys (key ∷ there) keys
 
 -- the old labels in their places as the update leaves them, then the new ones that are given
 abbrev pub with_named : List Label → List Label → List Bytes → List Label

@@ -169,8 +169,8 @@ impl Labels {
         *self.list.allocator()
     }
 
-    /// Leaves no label. Takes no memory, and gives that of the labels back.
-    pub(crate) fn clear(&mut self)
+    /// Leaves no label. Takes no memory, and gives that of the labels back. The cost grows with their number.
+    pub fn clear(&mut self)
         ensures { self.new ≡ [] }
     {
         *self = Labels::new(self.allocator());

@@ -74,8 +74,8 @@ impl<T> Sequence<T> {
         self.items.is_empty()
     }
 
-    /// Leaves no item. Takes no memory, and gives that of the items back.
-    pub(crate) fn clear(&mut self)
+    /// Leaves no item. Takes no memory, and gives that of the items back. The cost grows with their number.
+    pub fn clear(&mut self)
     where
         T: Drop,
         ensures { self.new ≡ [] }

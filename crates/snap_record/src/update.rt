@@ -2,7 +2,7 @@ ghost use Rattle.std.specs.Prelude.{◌≡◌, ◌&&◌, ◌||◌, not, count_by
 ghost use Rattle.std.specs.List.{cons_option, list_all, list_any};
 ghost use Rattle.std.specs.Option.{option_map_or};
 ghost use Rattle.snap_record.specs.Cut.{cut_path, kept_by_paths, kept_update};
-ghost use Rattle.snap_record.specs.Labels.{value_of, is_among, HasDistinctKeys};
+ghost use Rattle.snap_record.specs.Labels.{value_of, is_key_among, HasDistinctKeys};
 ghost use Rattle.snap_record.specs.Updates.{named_key, is_whole, is_update_path, replaces_all, named_keys, names_key, with_named, updated, have_forms, is_granted, is_well_formed};
 
 use crate::error::LabelsError;
@@ -101,7 +101,7 @@ pub fn named_key(path: &str) -> Option<&str>
 
 // Whether a path names the key.
 fn is_named(paths: &[Text], key: &Text) -> bool
-    ensures { result ≡ is_among key.now (named_keys paths.now) }
+    ensures { result ≡ is_key_among key.now (named_keys paths.now) }
 {
     any_names(paths, key)
 }
@@ -134,7 +134,7 @@ fn is_short(labels: &Labels, given: &Labels, paths: &[Text]) -> bool
 }
 
 fn kept_len(labels: &Labels, given: &Labels, paths: &[Text]) -> usize
-    ensures { result ≡ count_by (λ l. not (is_among l.0 (named_keys paths.now))
+    ensures { result ≡ count_by (λ l. not (is_key_among l.0 (named_keys paths.now))
         || is_some (value_of given.now l.0)) labels.now }
 {
     labels
@@ -145,7 +145,7 @@ fn kept_len(labels: &Labels, given: &Labels, paths: &[Text]) -> usize
 }
 
 fn added_len(labels: &Labels, given: &Labels, paths: &[Text]) -> usize
-    ensures count { result ≡ count_by (λ l. is_among l.0 (named_keys paths.now)
+    ensures count { result ≡ count_by (λ l. is_key_among l.0 (named_keys paths.now)
         && is_none (value_of labels.now l.0)) given.now }
     ensures distinct { HasDistinctKeys given.now }
 {
@@ -225,34 +225,25 @@ fn apply_key(next: &mut Labels, given: &Labels, key: Text) -> Result<(), AllocEr
     }
 }
 
-/// Cuts the labels and the paths of an update to what decides it: `sought` says whether the snapshot that it changes is
-/// looked for, once labels and paths have their forms.
+/// Cuts the labels and the paths of an update to what decides whether it has its form.
 ///
 /// Where a label is malformed, the first such alone is left, cut as by [`Labels::cut`], and no path; else, where a path
 /// is malformed, the first such alone, cut as by [`cut`](Text::cut) above 4103 bytes, and no label. Where the labels
-/// replace all, they and the path `labels` are left, if it is there. Else, where nothing is looked for, the first path
-/// alone, cut. So [`is_well_formed`] answers as before. Takes memory only for the label or the path that is left alone;
-/// fails only where it is wanting, and then either may be cut. The cost grows with the number of labels and paths.
-pub fn cut_update(
-    labels: &mut Labels,
-    paths: &mut Sequence<Text>,
-    sought: bool,
-) -> Result<(), AllocError>
-    ensures { OnOk result ((labels.new, paths.new) ≡ kept_update sought labels.old paths.old) }
+/// replace all, they and the path `labels` are left, if it is there; else both stay as they are. So [`is_well_formed`]
+/// answers as before. Takes memory only for the label or the path that is left alone; fails only where it is wanting,
+/// and then either may be cut. The cost grows with the number of labels and paths.
+pub fn cut_update(labels: &mut Labels, paths: &mut Sequence<Text>) -> Result<(), AllocError>
+    ensures { OnOk result ((labels.new, paths.new) ≡ kept_update labels.old paths.old) }
 {
     if labels.have_form() {
-        return cut_by_paths(labels, paths, sought);
+        return cut_by_paths(labels, paths);
     }
     paths.clear();
     labels.cut()
 }
 
-fn cut_by_paths(
-    labels: &mut Labels,
-    paths: &mut Sequence<Text>,
-    sought: bool,
-) -> Result<(), AllocError>
-    ensures { OnOk result ((labels.new, paths.new) ≡ kept_by_paths sought labels.old paths.old) }
+fn cut_by_paths(labels: &mut Labels, paths: &mut Sequence<Text>) -> Result<(), AllocError>
+    ensures { OnOk result ((labels.new, paths.new) ≡ kept_by_paths labels.old paths.old) }
 {
     let alloc = paths.allocator();
     if let Some(path) = first_malformed(paths.as_slice()) {
@@ -260,9 +251,6 @@ fn cut_by_paths(
         labels.clear();
     } else if replaces_all(paths.as_slice()) {
         *paths = path_alone(alloc, first_whole(paths.as_slice()))?;
-    } else if !sought {
-        *paths = path_alone(alloc, paths.as_slice().first())?;
-        labels.clear();
     }
     Ok(())
 }

@@ -1,5 +1,4 @@
 -- The status of the program; cited by a private clause alone, since a program has no other.
--- Cited by invariants and private clauses alone.
 use Rattle.std.specs.Prelude.{ℕ, Result, Ok, Err}
 use Rattle.snap_jobs.specs.declared.stop.JobsStop.{JobsStop}
 use Rattle.snap_jobs.specs.Words.{jobs_status_of}

@@ -1,5 +1,4 @@
 -- What a replay leaves.
--- Cited by invariants and private clauses alone.
 use Rattle.std.specs.Prelude.{ℕ, List, Option, None, Result, Ok, Err}
 use Rattle.snap_lines.specs.Transcripts.{Tells}
 use Rattle.snap_session.specs.declared.run.RunOptions.{RunOptions}

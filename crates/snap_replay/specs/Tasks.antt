@@ -1,5 +1,4 @@
 -- What the program is asked for.
--- Cited by invariants and private clauses alone.
 use Rattle.std.specs.Prelude.{◌≤◌}
 use Rattle.snap_replay.specs.declared.Task.{Task}
 use Rattle.snap_replay.specs.declared.Task.TheVariants.{Run, Serve, Writers}

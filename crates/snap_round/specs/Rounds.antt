@@ -1,5 +1,4 @@
 -- What the seats of a table of rounds know, and the rule over all of them.
--- Cited by `NewStore::into_parts`, `Tie::begin`, `Tie::split` and others.
 use Rattle.std.specs.Prelude.{◌≡◌, ◌≢◌, ℕ, List, [], true, false}
 use mathlib.Core.Option.{some}
 use lib.ListN.{get_elem?}

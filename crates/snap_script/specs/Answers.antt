@@ -1,5 +1,4 @@
 -- What a line is answered: JSON, the keys of each object in byte order; cited by the public clause of `Answer::line`.
--- Cited by `TreeNode as ToJson`, `Answer::line`, `Answer as ToJson` and others.
 use Rattle.std.specs.Prelude.{ℕ, true, if◌then◌else◌, List, [], ◌∷◌, ◌++◌, Option, Some, None, codes, map}
 use Rattle.std.specs.Option.{option_map, option_map_or}
 use Rattle.std.specs.Str.{is_utf8}

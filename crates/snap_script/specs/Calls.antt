@@ -1,7 +1,6 @@
 -- The line of a script that makes a call which an entry of the journal has; cited by the public clause of `call_line`.
 -- A call of `charge`, `trim`, `commit` and `discard` names its snapshot by the slot and the id, so the namespace and the
 -- key of its line are given beside it.
--- Cited by `call_line`, `Runner::new`, `replay_within` and others.
 use Rattle.std.specs.Prelude.{ℕ, List, [], ◌∷◌, map, Option, codes, unwrap_or}
 use Rattle.std.specs.Option.{option_map, option_map_or, option_or}
 use Rattle.serde_json.specs.Data.{Data, null, string, array, object, Members, no_members, member, put}

@@ -1,6 +1,5 @@
 -- The commands of a script; cited by the public clause of `read_line` through Lines.antt. The fields of a command are
 -- tested in the order in which they stand.
--- Cited by `read_open`, `read_line`, `named` and others.
 use Rattle.std.specs.Prelude.{ℕ, Bool, [], false, if◌then◌else◌, Option, None, unwrap_or, Result, Ok}
 use Rattle.serde_json.specs.Data.{Data}
 use Rattle.serde_json.specs.Find.{as_bool, as_str}

@@ -1,5 +1,4 @@
 -- What a line's faults are called; cited by the public clauses of `Field` and `Fault`.
--- Cited by `Field::name`, `Fault as Display`, `read_open` and others.
 use Rattle.std.specs.Prelude.{ℕ, List, ◌++◌, Option, Some, None, codes, decimal}
 use Rattle.snap_script.specs.declared.fault.Field.{Field}
 use Rattle.snap_script.specs.declared.fault.Field.TheVariants as fields

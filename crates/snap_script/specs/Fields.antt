@@ -1,6 +1,5 @@
 -- What a field of a line has to be; cited by the public clause of `read_line` through Lines.antt. The line's value is
 -- the one that serde_json reads.
--- Cited by `read_open`, `read_line`, `operations` and others.
 use Rattle.std.specs.Prelude.{ℕ, min, ◌&&◌, ◌||◌, nat_le, if◌then◌else◌, List, [], ◌∷◌, length, Option, Some, None, option_map, option_and_then, Result, Ok, Err, replicate, find}
 use Rattle.std.specs.Option.{ok_or, option_map_or, option_zip}
 use Rattle.std.specs.Str.{bytes_eq}

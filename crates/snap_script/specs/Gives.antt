@@ -1,6 +1,5 @@
 -- What a call answers, beside what the definitions give; cited by the public clause of `read_line`, and `GivesAll` by
 -- private clauses alone.
--- Cited by `read_object`, `read_open`, `read_line` and others.
 use Rattle.std.specs.Prelude.{◌≡◌, Result, Ok, Err}
 use Rattle.snap_script.specs.declared.fault.Fault.{Fault}
 use Rattle.snap_script.specs.declared.fault.ReadError.{ReadError}

@@ -1,6 +1,5 @@
 -- The fields that a line may have, where unknown ones are faults; cited by the public clauses of `read_line` and
 -- `read_request` through Lines.antt.
--- Cited by `read_open`, `read_line`, `operations` and others.
 use Rattle.std.specs.Prelude.{ℕ, Bool, ◌||◌, if◌then◌else◌, List, [], ◌∷◌, Option, Some, None, find, option_and_then, Result, Ok, Err}
 use Rattle.std.specs.List.{list_any}
 use Rattle.std.specs.Str.{bytes_eq}

@@ -1,5 +1,4 @@
 -- What a line of a script is; cited by the public clause of `read_line`.
--- Cited by `is_empty`, `read_object`, `read_open` and others.
 use Rattle.std.specs.Prelude.{ℕ, Bool, true, false, ◌||◌, ◌==◌, nat_lt, if◌then◌else◌, List, length, Option, Some, None, Result, Ok, Err}
 use Rattle.std.specs.List.{list_all}
 use Rattle.std.specs.Option.{ok_or, is_some}

@@ -1,6 +1,5 @@
 -- Which texts are one edit apart; cited by the public clauses of `read_line` and `read_request` through Words.antt and
 -- Known.antt.
--- Cited by `read_open`, `read_line`, `read_request` and others.
 use Rattle.std.specs.Prelude.{ℕ, Bool, false, ◌&&◌, ◌||◌, ◌==◌, if◌then◌else◌, List, [], ◌∷◌, length}
 use Rattle.std.specs.Str.{bytes_eq}
 

@@ -1,6 +1,5 @@
 -- File operations, as lines and jobs have them; cited by the public clauses of `read_line`, through Commands.antt, and of
 -- `operations`. The fields are tested in the order in which they stand.
--- Cited by `read_line`, `operations`, `read_request` and others.
 use Rattle.std.specs.Prelude.{ℕ, ◌+◌, if◌then◌else◌, List, [], ◌∷◌, Option, Some, None, option_map, Result, Ok, Err}
 use Rattle.std.specs.Option.{is_some, ok_or, option_zip}
 use Rattle.serde_json.specs.Data.{Data, Items, no_items, item}

@@ -1,5 +1,4 @@
 -- Which answers tell of a refusal, and its name; cited by the public clauses of `Answer::refusal` and `Refused::name`.
--- Cited by `Fault as Display`, `Refused::name`, `Answer::refusal` and others.
 use Rattle.std.specs.Prelude.{ℕ, List, Option, Some, None, codes}
 use Rattle.snap_call.specs.declared.refusal.Refusal.TheVariants.{BadArgument}
 use Rattle.snap_call.specs.declared.reply.Reply.TheVariants as replies

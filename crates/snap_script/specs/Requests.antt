@@ -1,5 +1,4 @@
 -- A line that a client may give an id; cited by the public clause of `read_request`.
--- Cited by `read_request`, `serve`, `Server as TakeLine`.
 use Rattle.std.specs.Prelude.{ℕ, nat_lt, if◌then◌else◌, List, length, Option, None, codes}
 use Rattle.std.specs.Result.{result_ok}
 use Rattle.std.specs.Option.{option_and_then, option_map, option_or}

@@ -1,5 +1,4 @@
 -- What a line is answered where each has an answer; cited by the public clause of `Response::line`.
--- Cited by `Id as ToJson`, `Response as ToJson`, `Response::line` and others.
 use Rattle.std.specs.Prelude.{true, List, [], ℕ, ◌∷◌, ◌++◌, Option, Some, None, codes}
 use Rattle.serde_json.specs.Data.{Data, boolean, string, object, member}
 use Rattle.serde_json.specs.Written.{compact_text}

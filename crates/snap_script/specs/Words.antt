@@ -1,6 +1,5 @@
 -- The words of the commands; cited by the public clauses of `read_line` and `operations` through Lines.antt and
 -- Operations.antt.
--- Cited by `read_open`, `read_line`, `operations` and others.
 use Rattle.std.specs.Prelude.{List, ℕ, [], ◌∷◌, Bool, true, false, ◌&&◌, Option, option_map, codes, find, map}
 use Rattle.std.specs.Option.{option_or}
 use Rattle.std.specs.Map.{lookup}

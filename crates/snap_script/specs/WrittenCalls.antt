@@ -1,5 +1,4 @@
 -- How the line of a call is written: its members one after another.
--- Cited by invariants and private clauses alone.
 use Rattle.std.specs.Prelude.{ℕ, List, map, Option, codes}
 use Rattle.std.specs.Option.{option_map}
 use Rattle.serde_json.specs.Data.{Data, string, array, object, Members, no_members, member}

@@ -5,7 +5,7 @@ ghost use Rattle.serde_json.specs.Data.{Data, array, boolean, member, object, no
 ghost use Rattle.serde_json.specs.View.{items_of};
 ghost use Rattle.snap_json.specs.Tokens.{with_value};
 ghost use Rattle.snap_script.specs.Answers.{digest_data, members_with_entries, number_data, only, text_data, usage_data};
-ghost use Rattle.snap_script.specs.Written.{written_members_of, with_maybe, with_member};
+ghost use Rattle.snap_script.specs.Written.{written_members_of, with_maybe, member_tokens};
 
 use snap_json::{Token, Writer};
 use snap_layer::Bytes;
@@ -183,7 +183,7 @@ pub(crate) fn member<V: ToJson>(
     key: &str,
     value: &V,
 ) -> Result<(), AllocError>
-    ensures { OnOk result (out.new ≡ with_member key.now (V.value value.now) out.old) }
+    ensures { OnOk result (out.new ≡ member_tokens key.now (V.value value.now) out.old) }
 {
     out.token(Token::Key(key))?;
     value.write(alloc, out)

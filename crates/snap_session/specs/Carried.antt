@@ -1,5 +1,4 @@
 -- The snapshots that were active when a round began, by the namespaces' names and the records of the state at that time.
--- Cited by `Runner::new`, `Runner as TakeLine`, `replay_within` and others.
 use Rattle.std.specs.Prelude.{ℕ, ◌==◌, if◌then◌else◌, List, [], ◌∷◌, filter_map, slice_get, Option, None, Some}
 use Rattle.std.specs.Option.{option_map}
 use Rattle.snap_record.specs.Labels.{Bytes}

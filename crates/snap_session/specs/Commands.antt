@@ -1,5 +1,4 @@
 -- What a command of a script answers, and the store after it; cited by the public clauses of `act` and, through Script.antt, of `replay`.
--- Cited by `Runner::new`, `Runner as TakeLine`, `replay_within` and others.
 use Rattle.std.specs.Prelude.{ℕ, nat_lt, Bool, true, false, List, length, map, take, drop, Option, None, Some, Result, Ok, Err, if◌then◌else◌}
 use Rattle.std.specs.Option.{option_map, option_map_or}
 use Rattle.snap_path.specs.Text.{Names}
@@ -12,7 +11,7 @@ use Rattle.snap_merge.specs.Objects.{Object, dir, file, symlink, seen}
 use Rattle.snap_merge.specs.Listing.{listing}
 use Rattle.snap_merge.specs.Reading.{reading}
 use Rattle.snap_merge.specs.Resolving.{resolution}
-use Rattle.snap_merge.specs.Taken.{taken}
+use Rattle.snap_merge.specs.Taken.{disk_usage}
 use Rattle.snap_upper.specs.declared.op.Op.{Op}
 use Rattle.snap_record.specs.Labels.{Bytes}
 use Rattle.snap_call.specs.declared.call.Call.TheVariants as calls
@@ -20,6 +19,7 @@ use Rattle.snap_call.specs.declared.config.Config.{Config}
 use Rattle.snap_call.specs.declared.refusal.Refusal.{Refusal}
 use Rattle.snap_call.specs.declared.refusal.Refusal.TheVariants.{BadArgument}
 use Rattle.snap_call.specs.declared.reply.Reply.TheVariants as replies
+use Rattle.snap_call.specs.declared.state.State.{State}
 use Rattle.snap_call.specs.Forms.{bad_field}
 use Rattle.snap_call.specs.Kept.{kept as kept_call}
 use Rattle.snap_call.specs.Questions.{reply_to}
@@ -71,14 +71,14 @@ answer_of_step session slot w step_answers.NoHand = answers.NoHand
 abbrev pub telling : ℕ → ℕ → WorldValue × StepAnswer → WorldValue × Answer
 telling session slot after = (after.0, answer_of_step session slot after.0 after.1)
 
--- the step as it is made: a call with its texts cut to what the journal keeps of them, which is answered alike
-abbrev pub step_kept : Step → Step
-step_kept (Locked session call) = Locked session (kept_call call)
-step_kept (Hand slot op) = Hand slot op
+-- the step as it is made: a call with its texts cut to what the journal keeps of them, by the state, which answers it alike
+abbrev pub step_kept : State → Step → Step
+step_kept s (Locked session call) = Locked session (kept_call s call)
+step_kept s (Hand slot op) = Hand slot op
 
 -- one step, and its answer
 abbrev pub stepped : ℕ → ℕ → Step → WorldValue → WorldValue × Answer
-stepped session slot step w = telling session slot (move w (step_kept step))
+stepped session slot step w = telling session slot (move w (step_kept w.state step))
 
 -- what follows, or the refusal; no step is made where it is refused
 abbrev pub world_unless_refused : {A : Type 0} → WorldValue → (A → WorldValue × Answer) → Result A Refusal → WorldValue × Answer
@@ -137,7 +137,7 @@ looked_up lookups.List layers path = found_or_else answers.Names answers.Failed 
 looked_up lookups.Read layers path = found_or_else (read_of (λ bytes. answers.Head (take 16 bytes) (length bytes))) answers.Failed (reading layers path)
 looked_up (lookups.Part offset most) layers path = found_or_else (read_of (λ bytes. answers.Part (take most (drop offset bytes)) (length bytes))) answers.Failed (reading layers path)
 looked_up lookups.Resolve layers path = found_or_else answers.Path answers.Failed (resolution layers path)
-looked_up lookups.Usage layers path = found_or_else answers.Taken answers.Failed (taken layers path)
+looked_up lookups.Usage layers path = found_or_else answers.Taken answers.Failed (disk_usage layers path)
 
 -- the layers of a snapshot that is looked at, or why there are none; where it is peeked at, a committed one has some
 abbrev pub layers_at : WorldValue → Bytes → Bytes → Bool → Result (List Tree) Refusal
@@ -214,11 +214,11 @@ store_opened c = option_map_or (λ field. (None, answers.BadConfig field)) (bad_
 -- ---- a command
 
 -- the store that stands has the world after the command
-abbrev pub kept : OpenedValue → WorldValue × Answer → Option OpenedValue × Answer
-kept s after = (Some (record { world = after.0; names = s.names }), after.1)
+abbrev pub with_world : OpenedValue → WorldValue × Answer → Option OpenedValue × Answer
+with_world s after = (Some (record { world = after.0; names = s.names }), after.1)
 
 -- a command in the session n: the store after it, and the answer. Without a store no session is open.
 abbrev pub command_done : Option OpenedValue → ℕ → Command → Option OpenedValue × Answer
 command_done None n (commands.Open config) = store_opened config
 command_done None n command = (None, answers.NoSession)
-command_done (Some s) n command = kept s (on_store s n command)
+command_done (Some s) n command = with_world s (on_store s n command)

@@ -1,5 +1,4 @@
 -- What the layer of a snapshot changes; cited, through Commands.antt, by the public clauses of `act` and `replay`.
--- Cited by `Runner::new`, `Runner as TakeLine`, `replay_within` and others.
 use Rattle.std.specs.Prelude.{ℕ, ◌==◌, if◌then◌else◌, List, [], length, Option, Some, None, Result, Ok, Err}
 use Rattle.std.specs.Option.{option_map_or}
 use Rattle.snap_path.specs.Text.{Names, is_path, path_names}

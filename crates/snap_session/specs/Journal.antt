@@ -1,5 +1,4 @@
 -- The round's entries, all or those of a namespace; the snapshots that were active when it began are given beside the world.
--- Cited by `Runner::new`, `Runner as TakeLine`, `replay_within` and others.
 use Rattle.std.specs.Prelude.{ℕ, ◌-◌, ◌==◌, Bool, true, false, if◌then◌else◌, List, [], ◌∷◌, length, map, slice_get, Option, None, Some, is_some, option_and_then}
 use Rattle.std.specs.Option.{option_map, option_map_or, option_or}
 use Rattle.snap_record.specs.Labels.{Bytes}
@@ -59,8 +58,8 @@ abbrev pub is_first : Entry → Bool
 is_first e = opens_first e.call e.session
 
 -- the line of the entry: where the call names its snapshot by the slot, with this name. That of session 0 has none, since no line opens it
-abbrev pub line_of : Option SnapshotName → Entry → Option Bytes
-line_of held e = if is_first e then None else Some (call_line (option_map_or (λ h. h.namespace) held []) e.session (option_map (λ h. h.key) held) e.call)
+abbrev pub entry_line : Option SnapshotName → Entry → Option Bytes
+entry_line held e = if is_first e then None else Some (call_line (option_map_or (λ h. h.namespace) held []) e.session (option_map (λ h. h.key) held) e.call)
 
 -- the name of the namespace of the entry that is told
 abbrev pub namespace_at : WorldValue → List Carried → EntryInfo → Option Bytes
@@ -68,7 +67,7 @@ namespace_at w carried info = option_and_then (λ e. namespace_of (held_name car
 
 -- its line
 abbrev pub line_at : WorldValue → List Carried → EntryInfo → Option Bytes
-line_at w carried info = option_and_then (λ e. line_of (held_name carried w.journal info.id e.call) e) (entry_numbered w info.number)
+line_at w carried info = option_and_then (λ e. entry_line (held_name carried w.journal info.id e.call) e) (entry_numbered w info.number)
 
 -- an entry that is told: where all are, with its namespace, and in full with its line
 abbrev pub journal_entry : WorldValue → List Carried → Bool → Bool → EntryInfo → JournalEntry

@@ -1,5 +1,4 @@
 -- The leases of a namespace.
--- Cited by `Runner::new`, `Runner as TakeLine`, `replay_within` and others.
 use Rattle.std.specs.Prelude.{List, [], ◌∷◌, Option}
 use Rattle.std.specs.Option.{option_map_or}
 use Rattle.snap_record.specs.Labels.{Bytes}

@@ -1,5 +1,4 @@
 -- The store that a script has opened; the public clauses of `Script` see this value.
--- Cited by `Runner::new`, `Runner as TakeLine`, `replay_within` and others.
 use Rattle.std.specs.Prelude.{ℕ, Bool, false, List, [], Option, None, replicate, map, unwrap_or}
 use Rattle.std.specs.Option.{option_map}
 use Rattle.snap_usage.specs.declared.usage.Usage.{Usage}

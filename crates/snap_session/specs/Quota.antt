@@ -1,5 +1,4 @@
 -- What namespaces may take and what they take.
--- Cited by `Runner::new`, `Runner as TakeLine`, `replay_within` and others.
 use Rattle.std.specs.Prelude.{[], ◌∷◌, Option, option_map, filter_map}
 use Rattle.std.specs.Option.{option_map_or}
 use Rattle.snap_record.specs.Labels.{Bytes}

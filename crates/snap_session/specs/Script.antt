@@ -1,5 +1,4 @@
 -- What a script answers, line for line, and its first fault; cited by the public clauses of `replay`.
--- Cited by `Runner::new`, `Runner as TakeLine`, `replay_within` and others.
 use Rattle.std.specs.Prelude.{List, [], ℕ, if◌then◌else◌, Option, None, Some, is_some, Result, Ok, Err}
 use Rattle.std.specs.Option.{option_map_or}
 use Rattle.snap_call.specs.Results.{◌>>=◌}

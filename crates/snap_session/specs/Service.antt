@@ -1,5 +1,4 @@
 -- What a server answers, line for line; cited by the public clauses of `serve`.
--- Cited by `Server::new`, `Server as TakeLine`, `serve`.
 use Rattle.std.specs.Prelude.{ℕ, List, Option, None, is_some, Result, Ok, Err}
 use Rattle.std.specs.Option.{option_map_or}
 use Rattle.snap_script.specs.declared.fault.Fault.{Fault}
@@ -12,7 +11,7 @@ use Rattle.snap_script.specs.Lines.{line_of}
 use Rattle.snap_script.specs.Requests.{id_of}
 use Rattle.snap_script.specs.Responses.{response_line}
 use Rattle.snap_lines.specs.Effects.{Effect, Effects}
-use Rattle.snap_lines.specs.Transcripts.{Stops, Transcript, next_number, transcript}
+use Rattle.snap_lines.specs.Transcripts.{Stops, Transcript, next_line, transcript}
 use Rattle.snap_lines.specs.declared.stop.Stop.{Stop}
 use Rattle.snap_lines.specs.declared.stop.Stop.TheVariants as stops
 use Rattle.snap_session.specs.Opened.{ScriptValue, unopened}
@@ -38,7 +37,7 @@ effect_responded number id after = record { value = record { script = after.0; l
 
 -- what the bytes of a line do, which has no fault
 unfoldable pub served : Effects ServerValue
-served s bytes = Ok (effect_responded (next_number s.lines) (id_of bytes) (responded s.script (next_number s.lines) (line_of KnownAndId (is_some s.script.store) bytes)))
+served s bytes = Ok (effect_responded (next_line s.lines) (id_of bytes) (responded s.script (next_line s.lines) (line_of KnownAndId (is_some s.script.store) bytes)))
 
 -- the transcript of a server, which begins without a store; its lines have no limit
 abbrev pub service : List ℕ → Transcript ServerValue

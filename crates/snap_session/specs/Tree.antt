@@ -1,5 +1,4 @@
 -- The snapshots of a namespace as a forest by parent.
--- Cited by `Runner::new`, `Runner as TakeLine`, `replay_within` and others.
 use Rattle.std.specs.Prelude.{ℕ, ◌==◌, List, Option, bytes_eq, filter, map, position}
 use Rattle.std.specs.Option.{option_map_or}
 use Rattle.snap_record.specs.Labels.{Bytes}

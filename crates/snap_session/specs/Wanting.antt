@@ -1,5 +1,4 @@
 -- Which answers of a step are want of memory; cited by private clauses alone.
--- Cited by invariants and private clauses alone.
 use Rattle.std.specs.Prelude.{Bool, true, false, Result, Ok, Err}
 use Rattle.snap_merge.specs.declared.error.FsError.{FsError}
 use Rattle.snap_merge.specs.declared.error.FsError.TheVariants as errors

@@ -1,6 +1,6 @@
 // The round's entries, all or those of a namespace.
 ghost use Rattle.std.specs.Prelude.{◌≡◌, IfOk, map, option_copied};
-ghost use Rattle.snap_session.specs.Journal.{entry_numbered, held_name, is_first, journal_all, journal_entry, journal_in, journal_of, line_at, line_of, name_among, name_by, name_of, namespace_at, namespace_of};
+ghost use Rattle.snap_session.specs.Journal.{entry_numbered, held_name, is_first, journal_all, journal_entry, journal_in, journal_of, line_at, entry_line, name_among, name_by, name_of, namespace_at, namespace_of};
 
 use crate::carried::{Carried, SnapshotName, carried_name};
 use snap_call::{Call, Entry, Refusal, Reply, SharedEntry, is_page};
@@ -117,7 +117,7 @@ fn line_of(
     entry: &Entry,
     held: &Option<SnapshotName>,
 ) -> Result<Option<Text>, AllocError>
-    ensures { IfOk result (λ line. line ≡ line_of held.now entry.now) }
+    ensures { IfOk result (λ line. line ≡ entry_line held.now entry.now) }
 {
     if is_first(entry) {
         return Ok(None);

@@ -2,7 +2,7 @@
 ghost use Rattle.std.specs.Prelude.{◌≡◌, [], Some, IfOk};
 ghost use Rattle.snap_session.specs.Carried.{carried_of};
 ghost use Rattle.snap_session.specs.Opened.{total_of, totals_of};
-ghost use Rattle.snap_session.specs.Commands.{kept, on_store, report};
+ghost use Rattle.snap_session.specs.Commands.{with_world, on_store, report};
 
 use crate::calls::{ask, chain_usage, charge, commit, discard, session, trim, try_sweep};
 use crate::carried::Carried;
@@ -177,7 +177,7 @@ impl<N: StoreName> Opened<N> {
         n: u64,
         command: Command,
     ) -> Result<Answer, NoMemory>
-        ensures { IfOk result (λ answer. kept self.old (on_store self.old n command) ≡ (Some self.new, answer)) }
+        ensures { IfOk result (λ answer. with_world self.old (on_store self.old n command) ≡ (Some self.new, answer)) }
     {
         on_store(
             alloc,

@@ -103,7 +103,7 @@ pub(crate) fn called<N: StoreName>(
     ensures done { IfOk result (λ answer. stepped session slot (Locked session asked) world.old ≡ (world.new, answer)) }
     ensures opening { world.new.opening ≡ world.old.opening }
 {
-    asked.cut()?;
+    asked.cut(world.state())?;
     let answer = call(world, session, asked)?;
     Ok(told(session, slot, world, answer))
 }

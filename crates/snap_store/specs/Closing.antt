@@ -1,5 +1,4 @@
 -- What a close finds of a book and the sessions that are handed in, and what is known of a closed store.
--- Cited by `close_cause`, `Store::close`, `write_jobs_within` and others.
 use Rattle.std.specs.Prelude.{◌≡◌, ℕ, ◌<◌, List, map, filter, All, Option, None, Some, Ok, Err}
 use Rattle.snap_call.specs.declared.entry.Entry.{Entry}
 use Rattle.snap_call.specs.declared.state.State.{State}

@@ -1,5 +1,4 @@
 -- Which replies the plain calls have beside a refusal.
--- Cited by invariants and private clauses alone.
 use Rattle.snap_call.specs.declared.call.Call.{Call}
 use Rattle.snap_call.specs.declared.call.Call.TheVariants as calls
 use Rattle.snap_call.specs.declared.reply.Reply.{Reply}

@@ -1,5 +1,4 @@
 -- The round of a book.
--- Cited by `Store::close`, `write_jobs_within`, `write_jobs` and others.
 use Rattle.std.specs.Prelude.{◌≡◌, ℕ, true}
 use Rattle.snap_call.specs.Forms.{is_layer_limit}
 use Rattle.snap_book.specs.Book.{BookValue}

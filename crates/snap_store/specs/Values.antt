@@ -1,5 +1,4 @@
 -- What the calls of a store hand out, and what they answer.
--- Cited by `Store::prepare`, `Store::view`, `Store::charge` and others.
 use Rattle.std.specs.Prelude.{◌≡◌, ◌⊎◌, ℕ, List, [], ◌∷◌, length, Some}
 use Rattle.snap_layer.specs.Edits.{root_only}
 use Rattle.snap_usage.specs.declared.usage.Usage.{Usage}

@@ -1,5 +1,4 @@
 -- How far a tape was compared with its session's entries, while a journal is gone through.
--- Cited by invariants and private clauses alone.
 use Rattle.std.specs.Prelude.{◌≡◌, ℕ, ◌<◌, ◌≤◌, Bool, true, false, List, length, take, slice_get, Option, None, Some, option_and_then}
 use Rattle.snap_call.specs.declared.entry.Entry.{Entry}
 use Rattle.snap_call.specs.Journal.{session_entries}

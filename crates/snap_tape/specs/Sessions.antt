@@ -1,5 +1,4 @@
 -- What is asked of the sessions of a round and of their tapes.
--- Cited by `check_sessions`, `first_mismatch`, `close_cause` and others.
 use Rattle.std.specs.Prelude.{◌≡◌, ◌≢◌, ◌⊎◌, ℕ, ◌<◌, ◌≤◌, ◌==◌, Bool, List, length, take, slice_get, count_by, All, Any, Option, None, Some, Result, Ok, Err}
 use Rattle.snap_call.specs.declared.entry.Entry.{Entry}
 use Rattle.snap_call.specs.Journal.{session_entries}

@@ -1,5 +1,4 @@
 -- A session as clauses see it, and what a call leaves on its tape.
--- Cited by `check_sessions`, `first_mismatch`, `Session::reserve` and others.
 use Rattle.std.specs.Prelude.{◌≡◌, ℕ, ◌+◌, ◌-◌, ◌≤◌, Bool, true, false, List, [], ◌∷◌, ◌++◌, Option, None, Some}
 use Rattle.snap_call.specs.declared.call.Call.{Call}
 use Rattle.snap_call.specs.declared.call.Given.{Given}

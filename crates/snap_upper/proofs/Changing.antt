@@ -30,7 +30,7 @@ use Rattle.snap_upper.specs.declared.op.Op.{Op}
 use Rattle.snap_upper.specs.declared.op.Op.TheVariants as op
 use Rattle.snap_copyup.specs.Copying.{with_parents, copied_up}
 use Rattle.snap_copyup.proofs.Layers.{no_missing}
-use Rattle.snap_merge.specs.Walk.{walk, unless}
+use Rattle.snap_merge.specs.Walk.{walk_error, unless}
 use Rattle.snap_upper.specs.After.{after, tests, first_error, limited, next_layer, is_whiteout_at, with_content}
 use Rattle.snap_upper.proofs.KindErrors.{file_error, mode_error}
 use Rattle.snap_upper.specs.Changed.{ShowsAt, IsName, Turns, with_file_content, with_object_mode, changed}
@@ -206,7 +206,7 @@ module _ (u t : Tree) (ls : List Tree) (p : Names) (ok : IsLayer u) (layers : Ar
 
 -- ---- contents
 
-fill_changes : (u : Tree) (ls : List Tree) (p : Names) (g : Content → Content) → IsLayer u → AreLayers ls → walk (u ∷ ls) p ≡ None → file_error (seen (u ∷ ls) p) ≡ None
+fill_changes : (u : Tree) (ls : List Tree) (p : Names) (g : Content → Content) → IsLayer u → AreLayers ls → walk_error (u ∷ ls) p ≡ None → file_error (seen (u ∷ ls) p) ≡ None
     → Turns u (seen (u ∷ ls)) (seen (with_content (copied_up u ls p) (number_at (copied_up u ls p) p) g ∷ ls)) p (with_file_content g)
 fill_changes u ls p g ok layers way regular = let f = seen_file (seen (u ∷ ls) p) regular in by f.0 f.1 f.2
   where
@@ -257,7 +257,7 @@ seen_with_mode (Some (dir m)) e = inl (m, refl)
 seen_with_mode (Some (file m old)) e = inr (m, old, refl)
 seen_with_mode (Some (symlink target)) e = absurd (cc)
 
-mode_changes : (u : Tree) (ls : List Tree) (p : Names) (mode : ℕ) → IsLayer u → AreLayers ls → walk (u ∷ ls) p ≡ None → mode_error (seen (u ∷ ls) p) ≡ None
+mode_changes : (u : Tree) (ls : List Tree) (p : Names) (mode : ℕ) → IsLayer u → AreLayers ls → walk_error (u ∷ ls) p ≡ None → mode_error (seen (u ∷ ls) p) ≡ None
     → Turns u (seen (u ∷ ls)) (seen (with_mode (copied_up u ls p) p (at (copied_up u ls p) p) mode ∷ ls)) p (with_object_mode mode)
 mode_changes u ls p mode ok layers way there = by (at u p) refl
   where

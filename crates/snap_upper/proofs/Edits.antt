@@ -10,7 +10,7 @@ use Rattle.snap_layer.specs.Layers.{IsLayer}
 use Rattle.snap_layer.specs.Edits.{with_filled}
 use Rattle.snap_layer.specs.Contents.{body_content, edited, size_of, IsContent, IsShort}
 use Rattle.snap_merge.specs.Objects.{file, seen, AreLayers}
-use Rattle.snap_merge.specs.Walk.{walk}
+use Rattle.snap_merge.specs.Walk.{walk_error}
 use Rattle.snap_copyup.specs.declared.parents.Last.TheVariants as last
 use Rattle.snap_copyup.specs.Copying.{below, copied_up, with_parents}
 use Rattle.snap_copyup.specs.Places.{with_last, CanStand}
@@ -33,7 +33,7 @@ module _ (u : Tree) (ls : List Tree) (p : Names) (e : Edit) (ok : IsLayer u) (la
       ((m, old, there.1, sized, is_short m old was, edited_short e old (is_short m old was) whole.1), ap limited fill)
 
   -- a lower file, which is copied up
-  pub lower_edit : walk (u ∷ ls) p ≡ None → number_at u p ≡ None → (x : ℕ) (y : Content) → below u ls p ≡ Some (file x y) → ((walk (u ∷ ls) p ≡ None) × CanStand (last.File x (edited e y)) u p × (IsShort e y × IsContent (edited e y))) × (limited (with_last (last.File x (edited e y)) (with_parents u ls p) p) ≡ limited (with_content (copied_up u ls p) (number_at (copied_up u ls p) p) (edited e)))
+  pub lower_edit : walk_error (u ∷ ls) p ≡ None → number_at u p ≡ None → (x : ℕ) (y : Content) → below u ls p ≡ Some (file x y) → ((walk_error (u ∷ ls) p ≡ None) × CanStand (last.File x (edited e y)) u p × (IsShort e y × IsContent (edited e y))) × (limited (with_last (last.File x (edited e y)) (with_parents u ls p) p) ≡ limited (with_content (copied_up u ls p) (number_at (copied_up u ls p) p) (edited e)))
   lower_edit way number x y is =
       let none = no_own u ls p m old ok was number in
       let here : seen (u ∷ ls) p ≡ Some (file x y) = below_seen u ls p none ∙ is in

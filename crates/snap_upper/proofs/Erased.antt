@@ -19,7 +19,7 @@ use Rattle.snap_layer.proofs.Looks.{at-without_outside, body-bodies_without, kep
 use Rattle.snap_layer.proofs.Laws.{Takes, Takes-without, Replaces, Replaces-with_node}
 use Rattle.snap_merge.specs.declared.look.Seen.{Seen}
 use Rattle.snap_merge.specs.Objects.{Object, dir, file, symlink, object, seen, is_shown_dir, AreLayers}
-use Rattle.snap_merge.specs.Walk.{walk}
+use Rattle.snap_merge.specs.Walk.{walk_error}
 use Rattle.snap_merge.specs.Listing.{names}
 use Rattle.snap_merge.proofs.Listings.{listing_is}
 use Rattle.snap_merge.proofs.Views.{seen_node, seen_through, seen_alike}
@@ -51,7 +51,7 @@ seen_some (Some x) = refl
 
 -- something other than the root is seen, and nothing in it
 pub record IsErasable (s : List Tree) (p : Names) : Type 0 where
-  pub way : walk s p ≡ None
+  pub way : walk_error s p ≡ None
   pub there : is_some (seen s p) ≡ true
   pub below_root : p ≡ [] → ⊥
   pub clear : (n : List ℕ) → is_some (seen s (p ++ n ∷ [])) ≡ false
@@ -79,7 +79,7 @@ nil_from (x ∷ xs) e = absurd (omega (arith, ltb-false 0 (length (x ∷ xs)) e)
 -- the root of a stack is a directory
 pub IsErasable-name : (s : List Tree) (p : Names) → AreLayers s → is_shown_dir (seen s []) ≡ true → first_error (tests (op.Unlink p) s) ≡ None → IsErasable s p
 IsErasable-name s p layers root passes =
-    let first = test_passes (walk s p) (name_error (seen s p) ∷ []) passes in
+    let first = test_passes (walk_error s p) (name_error (seen s p) ∷ []) passes in
     let second = test_passes (name_error (seen s p)) [] first.1 in
     let there = name_there (seen s p) second.0 in
     record {
@@ -95,7 +95,7 @@ IsErasable-name s p layers root passes =
 pub IsErasable-dir : (s : List Tree) (p : Names) → first_error (tests (op.Rmdir p) s) ≡ None → IsErasable s p
 IsErasable-dir s p passes =
     let full = error_if (has_names s p) NotEmpty in
-    let first = test_passes (walk s p) (error_if (is_root p) Invalid ∷ dir_error (seen s p) ∷ full ∷ []) passes in
+    let first = test_passes (walk_error s p) (error_if (is_root p) Invalid ∷ dir_error (seen s p) ∷ full ∷ []) passes in
     let second = test_passes (error_if (is_root p) Invalid) (dir_error (seen s p) ∷ full ∷ []) first.1 in
     let third = test_passes (dir_error (seen s p)) (full ∷ []) second.1 in
     let fourth = test_passes full [] third.1 in

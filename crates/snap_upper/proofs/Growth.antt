@@ -24,7 +24,7 @@ use Rattle.snap_layer.proofs.Laws.{sorted-with_entry}
 use Rattle.snap_layer.proofs.Replacing.{with_node-free}
 use Rattle.snap_usage.specs.declared.usage.Usage.{Usage}
 use Rattle.snap_merge.specs.Objects.{AreLayers}
-use Rattle.snap_merge.specs.Walk.{walk}
+use Rattle.snap_merge.specs.Walk.{walk_error}
 use Rattle.snap_copyup.specs.declared.parents.Last.{Last}
 use Rattle.snap_copyup.specs.declared.parents.Last.TheVariants.{Nothing, Dir, File, Symlink, Whiteout}
 use Rattle.snap_copyup.specs.Copying.{with_parents}
@@ -92,7 +92,7 @@ without_bare t p sorted bare =
     by q false e = refl
 
 -- the directories above a path are added, and it has space
-pub space : (u : Tree) (ls : List Tree) (p : Names) → IsLayer u → walk (u ∷ ls) p ≡ None → IsFree (at u p) → HasSpace (with_parents u ls p) p
+pub space : (u : Tree) (ls : List Tree) (p : Names) → IsLayer u → walk_error (u ∷ ls) p ≡ None → IsFree (at u p) → HasSpace (with_parents u ls p) p
 space u ls p ok way free = by (at u p) refl
   where
     t : Tree
@@ -188,7 +188,7 @@ module _ (t : Tree) (p : Names) (has : HasSpace t p) where
 
 -- ---- the next layer
 
-module _ (u : Tree) (ls : List Tree) (p : Names) (last : Last) (blocks : ℕ) (numbered : Bool) (ok : IsLayer u) (way : walk (u ∷ ls) p ≡ None) (takes : Takes last blocks numbered) (free : IsFree (at u p)) (missing : ℕ) (more : TakesMore missing u (with_parents u ls p)) where
+module _ (u : Tree) (ls : List Tree) (p : Names) (last : Last) (blocks : ℕ) (numbered : Bool) (ok : IsLayer u) (way : walk_error (u ∷ ls) p ≡ None) (takes : Takes last blocks numbered) (free : IsFree (at u p)) (missing : ℕ) (more : TakesMore missing u (with_parents u ls p)) where
   abbrev t : Tree
   t = with_parents u ls p
 

@@ -14,7 +14,7 @@ use Rattle.snap_layer.specs.declared.node.Body.TheVariants as body_kinds
 use Rattle.snap_layer.specs.Tree.{Tree, Bodies, IsDirAt, path_cmp, at, body, number_at, number_of, node_hides}
 use Rattle.snap_layer.specs.Counts.{inode_count, block_count, is_within}
 use Rattle.snap_layer.specs.Layers.{IsLayer, IsWhole, IsFile, IsSymlink}
-use Rattle.snap_layer.specs.Edits.{HasPlace, IsFree, IsTakeable, name_of, with_entry, with_name, with_new, with_node, without, outside}
+use Rattle.snap_layer.specs.Edits.{HasPlace, IsFree, IsTakeable, named_node, with_entry, with_name, with_new, with_node, without, outside}
 use Rattle.snap_layer.proofs.Lists.{sorted-insert_entry}
 use Rattle.snap_layer.proofs.Paths.{begins-append, begins_itself, split_front}
 use Rattle.snap_layer.proofs.Looks.{at-without_inside, at-without_outside, sorted-bodies_without}
@@ -25,7 +25,7 @@ use Rattle.snap_layer.proofs.Replacing.{IsLayer-with_node}
 use Rattle.snap_layer.proofs.Moves.{not_longer, not_root, sorted-without}
 use Rattle.snap_merge.specs.declared.error.FsError.TheVariants.{Exists}
 use Rattle.snap_merge.specs.Objects.{Object, dir, file, symlink, seen, is_shown_dir, AreLayers}
-use Rattle.snap_merge.specs.Walk.{walk}
+use Rattle.snap_merge.specs.Walk.{walk_error}
 use Rattle.snap_merge.proofs.Views.{seen_node, seen_through, seen_alike, walk_same}
 use Rattle.snap_merge.proofs.Hiding.{hides_from_above}
 use Rattle.snap_merge.proofs.Above.{nothing_seen}
@@ -50,16 +50,16 @@ use Rattle.snap_upper.proofs.Taken.{IsKept, kept_from, none_added, walk_out, par
 
 -- a file or a symlink is seen at `from`, and nothing at `to`
 pub record IsLinkable (s : List Tree) (from to : Names) : Type 0 where
-  pub way_from : walk s from ≡ None
-  pub way_to : walk s to ≡ None
+  pub way_from : walk_error s from ≡ None
+  pub way_to : walk_error s to ≡ None
   pub name : link_error (seen s from) ≡ None
   pub unseen : is_some (seen s to) ≡ false
 
 pub IsLinkable-passed : (s : List Tree) (from to : Names) → first_error (tests (op.Link from to) s) ≡ None → IsLinkable s from to
 IsLinkable-passed s from to passes =
     let last = error_if (is_some (seen s to)) Exists in
-    let first = test_passes (walk s from) (walk s to ∷ link_error (seen s from) ∷ last ∷ []) passes in
-    let second = test_passes (walk s to) (link_error (seen s from) ∷ last ∷ []) first.1 in
+    let first = test_passes (walk_error s from) (walk_error s to ∷ link_error (seen s from) ∷ last ∷ []) passes in
+    let second = test_passes (walk_error s to) (link_error (seen s from) ∷ last ∷ []) first.1 in
     let third = test_passes (link_error (seen s from)) (last ∷ []) second.1 in
     let fourth = test_passes last [] third.1 in
     record {
@@ -105,21 +105,21 @@ hides_all (File j) k e = refl
 hides_all (Symlink j) k e = refl
 hides_all Whiteout k e = absurd (cc)
 
-file_name : (o : Option Body) (k : ℕ) → IsFile o → name_of k o ≡ Some (File k)
+file_name : (o : Option Body) (k : ℕ) → IsFile o → named_node k o ≡ Some (File k)
 file_name None k is = absurd is
 file_name (Some (body_kinds.File m content)) k is = refl
 file_name (Some (body_kinds.Symlink target)) k is = absurd is
 
-symlink_name : (o : Option Body) (k : ℕ) → IsSymlink o → name_of k o ≡ Some (Symlink k)
+symlink_name : (o : Option Body) (k : ℕ) → IsSymlink o → named_node k o ≡ Some (Symlink k)
 symlink_name None k is = absurd is
 symlink_name (Some (body_kinds.File m content)) k is = absurd is
 symlink_name (Some (body_kinds.Symlink target)) k is = refl
 
 -- a name of a number is that of its body
-pub name_is : (t : Tree) (n : Node) (k : ℕ) → number_of n ≡ Some k → IsWhole t n → name_of k (body t k) ≡ Some n
+pub name_is : (t : Tree) (n : Node) (k : ℕ) → number_of n ≡ Some k → IsWhole t n → named_node k (body t k) ≡ Some n
 name_is t (Dir m b) k e whole = absurd (cc)
-name_is t (File j) k e whole = let same : j ≡ k = cc in subst (λ (i : ℕ). name_of i (body t i) ≡ Some (File j)) same (file_name (body t j) j whole)
-name_is t (Symlink j) k e whole = let same : j ≡ k = cc in subst (λ (i : ℕ). name_of i (body t i) ≡ Some (Symlink j)) same (symlink_name (body t j) j whole)
+name_is t (File j) k e whole = let same : j ≡ k = cc in subst (λ (i : ℕ). named_node i (body t i) ≡ Some (File j)) same (file_name (body t j) j whole)
+name_is t (Symlink j) k e whole = let same : j ≡ k = cc in subst (λ (i : ℕ). named_node i (body t i) ≡ Some (Symlink j)) same (symlink_name (body t j) j whole)
 name_is t Whiteout k e whole = absurd (cc)
 
 -- ---- what is copied up
@@ -131,7 +131,7 @@ pub record CopiesName (u v : Tree) (ls : List Tree) (p : Names) : Type 0 where
   pub numbers : IsStrictlySortedBy nat_cmp (keys_of v.bodies)
   pub kept : (q : Names) → IsKept u ls q → at v q ≡ at u q
 
-module _ (u : Tree) (ls : List Tree) (p : Names) (ok : IsLayer u) (way : walk (u ∷ ls) p ≡ None) (name : link_error (seen (u ∷ ls) p) ≡ None) where
+module _ (u : Tree) (ls : List Tree) (p : Names) (ok : IsLayer u) (way : walk_error (u ∷ ls) p ≡ None) (name : link_error (seen (u ∷ ls) p) ≡ None) where
   abbrev parents : Tree
   parents = with_parents u ls p
 
@@ -217,7 +217,7 @@ module _ (u : Tree) (ls : List Tree) (from to : Names) (ok : IsLayer u) (layers 
   copy_shows : (q : Names) → seen (copied_up u ls from ∷ ls) q ≡ seen (u ∷ ls) q
   copy_shows = copied_view u ls from ready.way_from ok layers
 
-  pub way_to : walk (copied_up u ls from ∷ ls) to ≡ None
+  pub way_to : walk_error (copied_up u ls from ∷ ls) to ≡ None
   way_to = walk_same (u ∷ ls) (copy ∷ ls) copy_shows [] to ∙ ready.way_to
 
   pub adds_to : AddsParents (copied_up u ls from) (with_parents (copied_up u ls from) ls to) ls (length to)
@@ -318,7 +318,7 @@ module _ (u : Tree) (ls : List Tree) (from to : Names) (ok : IsLayer u) (layers 
       below_root = not_root to from out;
     }
 
-    pub way_without : walk (without u to ∷ ls) from ≡ None
+    pub way_without : walk_error (without u to ∷ ls) from ≡ None
     way_without = walk_out u ls to white [] from out ∙ ready.way_from
 
     stands : (q : Names) (n : List ℕ) (r : Names) → to ≡ q ++ n ∷ r → is_some (at (copied_up u ls from) q) ≡ true

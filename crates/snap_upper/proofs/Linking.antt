@@ -7,12 +7,12 @@ use Rattle.snap_layer.specs.declared.node.Node.TheVariants.{Dir, File, Symlink, 
 use Rattle.snap_layer.specs.Tree.{Tree, at, body, number_at, number_of}
 use Rattle.snap_layer.specs.Counts.{is_within}
 use Rattle.snap_layer.specs.Layers.{IsLayer}
-use Rattle.snap_layer.specs.Edits.{HasPlace, IsFree, name_of, with_name}
+use Rattle.snap_layer.specs.Edits.{HasPlace, IsFree, named_node, with_name}
 use Rattle.snap_layer.proofs.Kept.{free_has_no_number, node_with_number}
 use Rattle.snap_layer.proofs.Moves.{not_root}
 use Rattle.snap_merge.specs.declared.error.FsError.{FsError}
 use Rattle.snap_merge.specs.Objects.{Object, dir, file, symlink, is_shown_dir, AreLayers}
-use Rattle.snap_merge.specs.Walk.{walk}
+use Rattle.snap_merge.specs.Walk.{walk_error}
 use Rattle.snap_merge.proofs.Views.{seen_node}
 use Rattle.snap_copyup.specs.Copying.{copied_up, with_parents}
 use Rattle.snap_copyup.specs.Places.{IsRefusal}
@@ -57,7 +57,7 @@ module _ (u : Tree) (ls : List Tree) (from to : Names) (ok : IsLayer u) (layers 
   ready : IsLinkable (u ∷ ls) from to
   ready = IsLinkable-passed (u ∷ ls) from to passes
 
-  pub way_last : walk (u ∷ ls) to ≡ None
+  pub way_last : walk_error (u ∷ ls) to ≡ None
   way_last = ready.way_to
 
   -- what the layer has no number for is below it
@@ -83,7 +83,7 @@ module _ (u : Tree) (ls : List Tree) (from to : Names) (ok : IsLayer u) (layers 
   other_number k e = none_some (sym (free_has_no_number (at u to) (free u ls from to ok layers passes)) ∙ e)
 
   -- the layer with the name is the one that is wanted
-  pub name_made : (k : ℕ) → number_at (copied_up u ls from) from ≡ Some k → IsLayer (copied_up u ls from) → with_name (with_parents (copied_up u ls from) ls to) to (name_of k (body (copied_up u ls from) k)) ≡ next_layer (op.Link from to) u ls
+  pub name_made : (k : ℕ) → number_at (copied_up u ls from) from ≡ Some k → IsLayer (copied_up u ls from) → with_name (with_parents (copied_up u ls from) ls to) to (named_node k (body (copied_up u ls from) k)) ≡ next_layer (op.Link from to) u ls
   name_made k is okc =
       let node = node_with_number (at copy from) k is in
       ap (with_name t to) (name_is copy node.0 k node.2 (okc.nodes from node.0 node.1) ∙ sym ((parents_extend copy ls to (way_to u ls from to ok layers passes)).keeps from node.0 node.1))
@@ -102,8 +102,8 @@ module _ (u : Tree) (ls : List Tree) (from to : Names) (ok : IsLayer u) (layers 
     pub own_name_place : HasPlace (with_parents u ls to) to
     own_name_place = subst (λ (v : Tree). HasPlace (with_parents v ls to) to) own name_place
 
-    pub own_made : with_name (with_parents u ls to) to (name_of k (body u k)) ≡ next_layer (op.Link from to) u ls
-    own_made = (λ i. with_name (with_parents (sym own i) ls to) to (name_of k (body (sym own i) k))) ∙ name_made k (ap (λ (v : Tree). number_at v from) own ∙ number) (subst IsLayer (sym own) ok)
+    pub own_made : with_name (with_parents u ls to) to (named_node k (body u k)) ≡ next_layer (op.Link from to) u ls
+    own_made = (λ i. with_name (with_parents (sym own i) ls to) to (named_node k (body (sym own i) k))) ∙ name_made k (ap (λ (v : Tree). number_at v from) own ∙ number) (subst IsLayer (sym own) ok)
 
     pub own_full : is_within (with_parents u ls to) ≡ false → is_within (next_layer (op.Link from to) u ls) ≡ false
     own_full full = by (at u to) refl

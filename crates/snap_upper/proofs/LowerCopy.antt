@@ -13,7 +13,7 @@ use Rattle.snap_layer.proofs.Counting.{inodes_of}
 use Rattle.snap_layer.proofs.Kept.{nothing_below}
 use Rattle.snap_layer.proofs.Replacing.{is_within_many}
 use Rattle.snap_merge.specs.Objects.{Object, dir, file, symlink, seen, is_shown_dir}
-use Rattle.snap_merge.specs.Walk.{walk}
+use Rattle.snap_merge.specs.Walk.{walk_error}
 use Rattle.snap_copyup.specs.Copying.{below, copied_up, object_body, with_object, with_parents}
 use Rattle.snap_copyup.proofs.Most.{most_parents}
 use Rattle.snap_copyup.proofs.Alone.{below_seen, copied_missing}
@@ -47,8 +47,8 @@ body_fits (Some (symlink target)) b whole e = let same : body_kinds.Symlink targ
 
 -- a lower file or symlink is seen at `from`, and `to` doesn't lie there or below
 pub record IsLowerFile (u : Tree) (ls : List Tree) (from to : Names) : Type 0 where
-  pub way_from : walk (u ∷ ls) from ≡ None
-  pub way_to : walk (u ∷ ls) to ≡ None
+  pub way_from : walk_error (u ∷ ls) from ≡ None
+  pub way_to : walk_error (u ∷ ls) to ≡ None
   pub lower : at u from ≡ None
   pub there : is_some (seen (u ∷ ls) from) ≡ true
   pub no_dir : is_shown_dir (seen (u ∷ ls) from) ≡ false
@@ -64,7 +64,7 @@ module _ (u : Tree) (ls : List Tree) (from to : Names) (ok : IsLayer u) (is : Is
   above_from : AddsParents u (with_parents u ls from) ls (length from)
   above_from = adds_parents u ls from is.way_from
 
-  pub way_later : walk (with_parents u ls from ∷ ls) to ≡ None
+  pub way_later : walk_error (with_parents u ls from ∷ ls) to ≡ None
   way_later = second_way u ls from to is.way_from is.way_to
 
   pub above_to : AddsParents (with_parents u ls from) (with_parents (with_parents u ls from) ls to) ls (length to)

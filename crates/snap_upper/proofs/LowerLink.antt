@@ -14,7 +14,7 @@ use Rattle.snap_layer.proofs.Moves.{not_root}
 use Rattle.snap_layer.proofs.Replacing.{is_within_many}
 use Rattle.snap_merge.specs.declared.error.FsError.{FsError}
 use Rattle.snap_merge.specs.Objects.{seen, is_shown_dir, AreLayers}
-use Rattle.snap_merge.specs.Walk.{walk}
+use Rattle.snap_merge.specs.Walk.{walk_error}
 use Rattle.snap_copyup.specs.Copying.{below, copied_up, object_body, with_parents}
 use Rattle.snap_copyup.specs.Places.{IsRefusal}
 use Rattle.snap_copyup.proofs.ParentDirs.{parents_stand}
@@ -68,10 +68,10 @@ module _ (u : Tree) (ls : List Tree) (from to : Names) (ok : IsLayer u) (layers 
     not_inside = not_inside;
   }
 
-  pub link_way_from : walk (u ∷ ls) from ≡ None
+  pub link_way_from : walk_error (u ∷ ls) from ≡ None
   link_way_from = ready.way_from
 
-  pub link_way_to : walk (u ∷ ls) to ≡ None
+  pub link_way_to : walk_error (u ∷ ls) to ≡ None
   link_way_to = ready.way_to
 
   -- there is room for both names

@@ -14,7 +14,7 @@ use Rattle.snap_copyup.specs.declared.parents.Last.TheVariants as last
 use Rattle.snap_copyup.specs.Copying.{with_parents}
 use Rattle.snap_copyup.specs.Places.{with_last, IsFreePlace}
 use Rattle.snap_merge.specs.Objects.{Object, seen, is_shown_dir}
-use Rattle.snap_merge.specs.Walk.{walk}
+use Rattle.snap_merge.specs.Walk.{walk_error}
 use Rattle.snap_merge.specs.declared.error.FsError.TheVariants.{Exists, Invalid, TooBig}
 use Rattle.snap_upper.specs.declared.op.Op.TheVariants as op
 use Rattle.snap_layer.specs.Contents.{IsContent, IsDigest}
@@ -25,7 +25,7 @@ use Rattle.snap_upper.proofs.Outcomes.{test_passes, error_if_passes, after_passe
 
 -- the tests of a new object have passed
 pub record IsNew (s : List Tree) (p : Names) (mode : ℕ) : Type 0 where
-  pub way : walk s p ≡ None
+  pub way : walk_error s p ≡ None
   pub unseen : is_some (seen s p) ≡ false
   pub low : mode ≤ most_mode
 
@@ -34,7 +34,7 @@ low_mode mode e = ltb-false most_mode mode e
 
 pub IsNew-passed : (s : List Tree) (p : Names) (mode : ℕ) → first_error (tests (op.Mkdir p mode) s) ≡ None → IsNew s p mode
 IsNew-passed s p mode passes =
-    let first = test_passes (walk s p) (error_if (is_some (seen s p)) Exists ∷ error_if (nat_lt most_mode mode) Invalid ∷ []) passes in
+    let first = test_passes (walk_error s p) (error_if (is_some (seen s p)) Exists ∷ error_if (nat_lt most_mode mode) Invalid ∷ []) passes in
     let second = test_passes (error_if (is_some (seen s p)) Exists) (error_if (nat_lt most_mode mode) Invalid ∷ []) first.1 in
     let third = test_passes (error_if (nat_lt most_mode mode) Invalid) [] second.1 in
     record {
@@ -73,7 +73,7 @@ module _ (u : Tree) (ls : List Tree) (p : Names) (mode : ℕ) where
 
 -- the tests of a new file of a size have passed
 pub record IsNewSized (s : List Tree) (p : Names) (mode size : ℕ) (digest : Option (List ℕ)) : Type 0 where
-  pub way : walk s p ≡ None
+  pub way : walk_error s p ≡ None
   pub unseen : is_some (seen s p) ≡ false
   pub low : mode ≤ most_mode
   pub content : IsContent (Sized size digest)
@@ -87,7 +87,7 @@ IsNewSized-passed s p mode size digest passes =
     let bad = error_if (nat_lt most_mode mode) Invalid in
     let big = error_if (nat_lt most_sized_bytes size) TooBig in
     let long = error_if (is_long_digest digest) TooBig in
-    let first = test_passes (walk s p) (error_if (is_some (seen s p)) Exists ∷ bad ∷ big ∷ long ∷ []) passes in
+    let first = test_passes (walk_error s p) (error_if (is_some (seen s p)) Exists ∷ bad ∷ big ∷ long ∷ []) passes in
     let second = test_passes (error_if (is_some (seen s p)) Exists) (bad ∷ big ∷ long ∷ []) first.1 in
     let third = test_passes bad (big ∷ long ∷ []) second.1 in
     let fourth = test_passes big (long ∷ []) third.1 in
@@ -106,7 +106,7 @@ sized_after u ls p mode size digest copy passes is = ap (λ (d : Option (List �
 
 -- the tests of a new symlink have passed
 pub record IsNewSymlink (s : List Tree) (p : Names) (target : List ℕ) : Type 0 where
-  pub way : walk s p ≡ None
+  pub way : walk_error s p ≡ None
   pub unseen : is_some (seen s p) ≡ false
   pub target_is : is_target target ≡ true
 
@@ -129,7 +129,7 @@ pub IsNewSymlink-passed : (s : List Tree) (p : Names) (target : List ℕ) → fi
 IsNewSymlink-passed s p target passes =
     let big = error_if (nat_lt most_target_bytes (length target)) TooBig in
     let bad = error_if (is_no_target target) Invalid in
-    let first = test_passes (walk s p) (error_if (is_some (seen s p)) Exists ∷ bad ∷ big ∷ []) passes in
+    let first = test_passes (walk_error s p) (error_if (is_some (seen s p)) Exists ∷ bad ∷ big ∷ []) passes in
     let second = test_passes (error_if (is_some (seen s p)) Exists) (bad ∷ big ∷ []) first.1 in
     let third = test_passes bad (big ∷ []) second.1 in
     let fourth = test_passes big [] third.1 in

@@ -19,7 +19,7 @@ use Rattle.snap_layer.specs.Edits.{with_entry, with_new, with_body, with_mode, w
 use Rattle.snap_layer.proofs.Looks.{Sets-with_entry}
 use Rattle.snap_layer.proofs.Laws.{Replaces-with_new, SetsBody-with_new, inode_count-with_mode, block_count-with_mode}
 use Rattle.snap_merge.specs.Objects.{Object, dir, file, symlink, seen, shown_body, is_shown_dir, AreLayers}
-use Rattle.snap_merge.specs.Walk.{walk}
+use Rattle.snap_merge.specs.Walk.{walk_error}
 use Rattle.snap_merge.specs.declared.error.FsError.{FsError}
 use Rattle.snap_merge.specs.declared.error.FsError.TheVariants.{Invalid}
 use Rattle.snap_upper.specs.declared.usage.Planned.{Planned}
@@ -43,7 +43,7 @@ use Rattle.snap_upper.proofs.Writing.{new_with_body, entry_with_entry}
 
 -- the tests have passed
 pub record IsSettable (s : List Tree) (p : Names) (mode : ℕ) : Type 0 where
-  pub way : walk s p ≡ None
+  pub way : walk_error s p ≡ None
   pub there : mode_error (seen s p) ≡ None
   pub low : mode ≤ most_mode
 
@@ -53,7 +53,7 @@ low_mode mode e = ltb-false most_mode mode e
 pub IsSettable-passed : (s : List Tree) (p : Names) (mode : ℕ) → first_error (tests (op.SetMode p mode) s) ≡ None → IsSettable s p mode
 IsSettable-passed s p mode passes =
     let last = error_if (nat_lt most_mode mode) Invalid in
-    let first = test_passes (walk s p) (mode_error (seen s p) ∷ last ∷ []) passes in
+    let first = test_passes (walk_error s p) (mode_error (seen s p) ∷ last ∷ []) passes in
     let second = test_passes (mode_error (seen s p)) (last ∷ []) first.1 in
     let third = test_passes last [] second.1 in
     record {
@@ -100,7 +100,7 @@ copy_file_body t p m mode content =
     ap (λ (o : Option Node). with_mode v p o mode) (Replaces-with_new t p (File t.next) b).here
     ∙ ap (λ (o : Option Body). with_file_mode v t.next o mode) (SetsBody-with_new t p (File t.next) b).here
 
-module _ (u : Tree) (ls : List Tree) (p : Names) (way : walk (u ∷ ls) p ≡ None) (none : at u p ≡ None) where
+module _ (u : Tree) (ls : List Tree) (p : Names) (way : walk_error (u ∷ ls) p ≡ None) (none : at u p ≡ None) where
   abbrev t : Tree
   t = with_parents u ls p
 
@@ -166,7 +166,7 @@ with_mode_planned u p mode ok has low usage is =
 -- ---- changes
 
 module _ (u : Tree) (ls : List Tree) (p : Names) (mode : ℕ) (ok : IsLayer u) (passes : first_error (tests (op.SetMode p mode) (u ∷ ls)) ≡ None) where
-  pub lower_ready : AreLayers ls → is_some (at u p) ≡ false → (n : New) → IsWithMode n (seen (u ∷ ls) p) mode → (walk (u ∷ ls) p ≡ None) × CanStand (as_last n) u p × IsSound n
+  pub lower_ready : AreLayers ls → is_some (at u p) ≡ false → (n : New) → IsWithMode n (seen (u ∷ ls) p) mode → (walk_error (u ∷ ls) p ≡ None) × CanStand (as_last n) u p × IsSound n
   lower_ready layers none (new.Dir m opaque) is =
       let can = settable u ls p mode ok passes in
       (can.way, (vacant u p ok (none_from (at u p) none), subst (λ (x : ℕ). x ≤ most_mode) (sym is.1) can.low), tt)

@@ -23,7 +23,7 @@ use Rattle.snap_layer.proofs.Paths.{path_cmp_total, path_cmp-IsAntisymmetric, be
 use Rattle.snap_merge.specs.declared.error.FsError.{FsError}
 use Rattle.snap_merge.specs.declared.error.FsError.TheVariants.{NotFound, Invalid, NotEmpty, CrossDevice, BadPath, OutOfMemory}
 use Rattle.snap_merge.specs.Objects.{Object, seen, is_shown_dir, AreLayers}
-use Rattle.snap_merge.specs.Walk.{walk, walk_from}
+use Rattle.snap_merge.specs.Walk.{walk_error, walk_from}
 use Rattle.snap_merge.specs.Listing.{names}
 use Rattle.snap_merge.proofs.Listings.{listing_is}
 use Rattle.snap_merge.proofs.Above.{nothing_seen}
@@ -56,7 +56,7 @@ front_passes (Some x ∷ xs) ys is = absurd (cc)
 
 -- the tests of a rename up to the one whether it has something to do
 abbrev ends : List Tree → Names → Names → List (Option FsError)
-ends s from to = walk s from ∷ walk s to ∷ error_if (is_root from || is_root to) Invalid ∷ error_if (not (is_some (seen s from))) NotFound ∷ []
+ends s from to = walk_error s from ∷ walk_error s to ∷ error_if (is_root from || is_root to) Invalid ∷ error_if (not (is_some (seen s from))) NotFound ∷ []
 
 -- an error is want of memory, or another's
 pub or_memory : {A : Type 0} (P : FsError → Type 0) (r : Result A FsError) → IfErr r P → IfErr r (λ e. (e ≡ OutOfMemory no_memory) ⊎ P e)
@@ -175,8 +175,8 @@ long_test u from to false ok there back = by (moves_too_long u from to) refl
 -- what the tests say of a rename that has something to do
 pub record IsRenamable (u : Tree) (ls : List Tree) (from to : Names) : Type 0 where
   -- both ways are walked, and neither path is the root
-  pub way_from : walk (u ∷ ls) from ≡ None
-  pub way_to : walk (u ∷ ls) to ≡ None
+  pub way_from : walk_error (u ∷ ls) from ≡ None
+  pub way_to : walk_error (u ∷ ls) to ≡ None
   pub not_root : to ≡ [] → ⊥
   -- something is seen at `from`, and neither path begins with the other
   pub there : is_some (seen (u ∷ ls) from) ≡ true
@@ -194,8 +194,8 @@ dir_from : (s : List Tree) (q front : Names) (n : List ℕ) (r : Names) → walk
 dir_from s [] front n r way = subst (λ (x : Names). is_shown_dir (seen s x) ≡ true) (sym (append-nil front)) (walk_passes (seen s front) (walk_from s (front ++ n ∷ []) r) way).0
 dir_from s (m ∷ q) front n r way = subst (λ (x : Names). is_shown_dir (seen s x) ≡ true) (append_assoc front (m ∷ []) q) (dir_from s q (front ++ m ∷ []) n r (walk_passes (seen s front) (walk_from s (front ++ m ∷ []) (q ++ n ∷ r)) way).1)
 
-pub dir_above : (s : List Tree) (p q : Names) (n : List ℕ) (r : Names) → walk s p ≡ None → p ≡ q ++ n ∷ r → is_shown_dir (seen s q) ≡ true
-dir_above s p q n r way is = dir_from s q [] n r (ap (walk s) (sym is) ∙ way)
+pub dir_above : (s : List Tree) (p q : Names) (n : List ℕ) (r : Names) → walk_error s p ≡ None → p ≡ q ++ n ∷ r → is_shown_dir (seen s q) ≡ true
+dir_above s p q n r way is = dir_from s q [] n r (ap (walk_error s) (sym is) ∙ way)
 
 some_dir : (o : Option Object) → is_shown_dir o ≡ true → is_some o ≡ true
 some_dir None e = absurd (cc)
@@ -222,7 +222,7 @@ and_second true false e is = absurd (no_bool e)
 and_second false b e is = absurd (no_bool (sym is))
 
 -- the paths of the tests
-module _ (s : List Tree) (from to : Names) (way_from : walk s from ≡ None) (way_to : walk s to ≡ None) (other : is_same_path from to ≡ false) where
+module _ (s : List Tree) (from to : Names) (way_from : walk_error s from ≡ None) (way_to : walk_error s to ≡ None) (other : is_same_path from to ≡ false) where
   apart : begins from to ≡ true → begins to from ≡ true → ⊥
   apart e f = no_bool (sym (λ i. e i && f i) ∙ other)
 
@@ -256,8 +256,8 @@ renamable u ls from to passes other =
     let rest = if is_same_name u from to then [] else move_tests u ls from to in
     let missing = error_if (not (is_some (seen s from))) NotFound in
     let roots = error_if (is_root from || is_root to) Invalid in
-    let one = test_passes (walk s from) (walk s to ∷ roots ∷ missing ∷ rest) passes in
-    let two = test_passes (walk s to) (roots ∷ missing ∷ rest) one.1 in
+    let one = test_passes (walk_error s from) (walk_error s to ∷ roots ∷ missing ∷ rest) passes in
+    let two = test_passes (walk_error s to) (roots ∷ missing ∷ rest) one.1 in
     let three = test_passes roots (missing ∷ rest) two.1 in
     let four = test_passes missing rest three.1 in
     let tests_left : first_error (move_tests u ls from to) ≡ None = ap first_error (sym (cond-false (is_same_name u from to) [] (move_tests u ls from to) other)) ∙ four.1 in
@@ -268,7 +268,7 @@ renamable u ls from to passes other =
     not_not true e = refl
     not_not false e = absurd (no_bool e)
 
-    moved : walk (u ∷ ls) from ≡ None → walk (u ∷ ls) to ≡ None → is_root to ≡ false → is_some (seen (u ∷ ls) from) ≡ true → is_same_path from to ≡ false → first_error (move_tests u ls from to) ≡ None → IsRenamable u ls from to
+    moved : walk_error (u ∷ ls) from ≡ None → walk_error (u ∷ ls) to ≡ None → is_root to ≡ false → is_some (seen (u ∷ ls) from) ≡ true → is_same_path from to ≡ false → first_error (move_tests u ls from to) ≡ None → IsRenamable u ls from to
     moved way_from way_to root there apart left =
         let s = u ∷ ls in
         let is_dir = is_shown_dir (seen s from) in

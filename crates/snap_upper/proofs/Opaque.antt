@@ -16,7 +16,7 @@ use Rattle.snap_layer.proofs.Looks.{Sets-with_entry, split_path}
 use Rattle.snap_usage.specs.declared.usage.Usage.{Usage}
 use Rattle.snap_merge.specs.declared.error.FsError.{FsError}
 use Rattle.snap_merge.specs.Objects.{Object, dir, file, symlink, seen, shown, shown_body, AreLayers}
-use Rattle.snap_merge.specs.Walk.{walk}
+use Rattle.snap_merge.specs.Walk.{walk_error}
 use Rattle.snap_merge.proofs.Hiding.{hides_from_above}
 use Rattle.snap_merge.proofs.Views.{seen_alike, seen_node, seen_through}
 use Rattle.snap_copyup.specs.Copying.{copied_up, with_parents}
@@ -42,12 +42,12 @@ use Rattle.snap_upper.proofs.Writing.{entry_with_entry}
 
 -- the tests have passed
 pub record IsHideable (s : List Tree) (p : Names) : Type 0 where
-  pub way : walk s p ≡ None
+  pub way : walk_error s p ≡ None
   pub there : dir_error (seen s p) ≡ None
 
 pub IsHideable-passed : (s : List Tree) (p : Names) → first_error (tests (op.Opaque p) s) ≡ None → IsHideable s p
 IsHideable-passed s p passes =
-    let first = test_passes (walk s p) (dir_error (seen s p) ∷ []) passes in
+    let first = test_passes (walk_error s p) (dir_error (seen s p) ∷ []) passes in
     let second = test_passes (dir_error (seen s p)) [] first.1 in
     record { way = first.0; there = second.0 }
 
@@ -85,7 +85,7 @@ module _ (u : Tree) (ls : List Tree) (p : Names) (m : ℕ) (ok : IsLayer u) (was
       ap (λ (o : Option Node). with_opaque (with_entry t p (Dir m false)) p o true) (Sets-with_entry t p (Dir m false)).here
       ∙ entry_with_entry t p (Dir m false) (Dir m true)
 
-  pub copy_opaque : walk (u ∷ ls) p ≡ None → at u p ≡ None → with_opaque (copied_up u ls p) p (at (copied_up u ls p) p) true ≡ with_entry (with_parents u ls p) p (Dir m true)
+  pub copy_opaque : walk_error (u ∷ ls) p ≡ None → at u p ≡ None → with_opaque (copied_up u ls p) p (at (copied_up u ls p) p) true ≡ with_entry (with_parents u ls p) p (Dir m true)
   copy_opaque way none = ap (λ (v : Tree). with_opaque v p (at v p) true) (copied_as u ls p way none (Some (dir m)) was) ∙ copy_dir (with_parents u ls p)
 
 module _ (u : Tree) (ls : List Tree) (p : Names) (ok : IsLayer u) (passes : first_error (tests (op.Opaque p) (u ∷ ls)) ≡ None) (m : ℕ) (was : seen (u ∷ ls) p ≡ Some (dir m)) where
@@ -96,7 +96,7 @@ module _ (u : Tree) (ls : List Tree) (p : Names) (ok : IsLayer u) (passes : firs
   none_from None e = refl
   none_from (Some x) e = absurd (cc)
 
-  pub lower_opaque_ready : AreLayers ls → is_some (at u p) ≡ false → (walk (u ∷ ls) p ≡ None) × CanStand (last.Dir m true) u p
+  pub lower_opaque_ready : AreLayers ls → is_some (at u p) ≡ false → (walk_error (u ∷ ls) p ≡ None) × CanStand (last.Dir m true) u p
   lower_opaque_ready layers none = ((IsHideable-passed (u ∷ ls) p passes).way, (vacant u p ok (none_from (at u p) none), subst IsWholeObject was (whole_seen (u ∷ ls) (ok, layers) p)))
 
   pub lower_opaque_after : is_some (at u p) ≡ false → limited (with_last (last.Dir m true) (with_parents u ls p) p) ≡ after (op.Opaque p) u ls
@@ -160,7 +160,7 @@ pub opaque_changes : (u : Tree) (ls : List Tree) (p : Names) → IsLayer u → f
     → ShowsOpaque u (seen (u ∷ ls)) (seen (with_opaque (copied_up u ls p) p (at (copied_up u ls p) p) true ∷ ls)) p
 opaque_changes u ls p ok passes = by (at u p) refl
   where
-    way : walk (u ∷ ls) p ≡ None
+    way : walk_error (u ∷ ls) p ≡ None
     way = (IsHideable-passed (u ∷ ls) p passes).way
 
     found : (m : ℕ) × (seen (u ∷ ls) p ≡ Some (dir m))

@@ -18,7 +18,7 @@ use Rattle.snap_layer.proofs.Kept.{has_body}
 use Rattle.snap_layer.proofs.Laws.{Replaces, Replaces-with_new, SetsBody-with_new, sorted-with_node}
 use Rattle.snap_layer.proofs.Testing.{moved_names}
 use Rattle.snap_merge.specs.Objects.{Object, dir, file, symlink, seen, is_shown_dir, AreLayers}
-use Rattle.snap_merge.specs.Walk.{walk}
+use Rattle.snap_merge.specs.Walk.{walk_error}
 use Rattle.snap_merge.proofs.Views.{walk_same}
 use Rattle.snap_copyup.specs.Copying.{below, copied, copied_up, with_parents, is_pure_over}
 use Rattle.snap_copyup.specs.Places.{with_last, last_of}
@@ -46,7 +46,7 @@ pub record IsCopy (u v : Tree) (p : Names) : Type 0 where
   pub bodies : (q : Names) (k : ℕ) → begins q p ≡ false → number_at v q ≡ Some k → is_some (body v k) ≡ true
   pub sorted : IsStrictlySortedBy path_cmp (keys_of v.entries)
 
-module _ (u : Tree) (ls : List Tree) (p : Names) (ok : IsLayer u) (way : walk (u ∷ ls) p ≡ None) (none : at u p ≡ None) where
+module _ (u : Tree) (ls : List Tree) (p : Names) (ok : IsLayer u) (way : walk_error (u ∷ ls) p ≡ None) (none : at u p ≡ None) where
   abbrev w : Tree
   w = with_parents u ls p
 
@@ -114,7 +114,7 @@ module _ (u : Tree) (ls : List Tree) (from to : Names) (ok : IsLayer u) (layers 
   pub copied_seen : (q : Names) → seen (copied_up u ls from ∷ ls) q ≡ seen (u ∷ ls) q
   copied_seen = copied_view u ls from is.way_from ok layers
 
-  pub way_after : walk (copied_up u ls from ∷ ls) to ≡ None
+  pub way_after : walk_error (copied_up u ls from ∷ ls) to ≡ None
   way_after = walk_same (u ∷ ls) (v ∷ ls) copied_seen [] to ∙ is.way_to
 
   pub added : AddsParents (copied_up u ls from) (before_move u ls from to) ls (length to)

@@ -10,14 +10,14 @@ use Rattle.snap_path.specs.Text.{Names, IsPath, begins}
 use Rattle.snap_layer.specs.declared.node.Node.{Node}
 use Rattle.snap_layer.specs.Tree.{Tree, Bodies, path_cmp, at, body, number_at}
 use Rattle.snap_layer.proofs.Bounds.{content_blocks}
-use Rattle.snap_layer.specs.Counts.{inode_count, block_count, name_count}
+use Rattle.snap_layer.specs.Counts.{inode_count, block_count, name_count, most_file_blocks}
 use Rattle.snap_layer.specs.Layers.{IsLayer}
 use Rattle.snap_layer.specs.Edits.{IsFree, without}
 use Rattle.snap_layer.proofs.Kept.{has_body}
 use Rattle.snap_layer.proofs.Paths.{begins_itself}
 use Rattle.snap_layer.proofs.Replacing.{is_within_yes}
 use Rattle.snap_merge.specs.Objects.{Object, dir, file, symlink, seen, is_shown_dir, AreLayers}
-use Rattle.snap_merge.specs.Walk.{walk}
+use Rattle.snap_merge.specs.Walk.{walk_error}
 use Rattle.snap_merge.proofs.Views.{walk_same}
 use Rattle.snap_copyup.specs.declared.parents.Last.{Last}
 use Rattle.snap_copyup.specs.Copying.{with_object, with_parents, copied_up}
@@ -49,14 +49,14 @@ object_takes (Some (dir m)) some no_dir = absurd (cc)
 object_takes (Some (file m content)) some no_dir = (refl, refl)
 object_takes (Some (symlink target)) some no_dir = (refl, refl)
 
-few_of_object : (o : Option Object) → IsWholeObject o → object_blocks o ≤ 268435456
+few_of_object : (o : Option Object) → IsWholeObject o → object_blocks o ≤ most_file_blocks
 few_of_object None whole = omega arith
 few_of_object (Some (dir m)) whole = omega arith
 few_of_object (Some (file m content)) whole = content_blocks content whole.1
 few_of_object (Some (symlink target)) whole = omega arith
 
 -- what is seen has at most 2 ^ 28 blocks
-pub few_seen : (s : List Tree) → AreLayers s → (p : Names) → object_blocks (seen s p) ≤ 268435456
+pub few_seen : (s : List Tree) → AreLayers s → (p : Names) → object_blocks (seen s p) ≤ most_file_blocks
 few_seen s layers p = few_of_object (seen s p) (whole_seen s layers p)
 
 module _ (u : Tree) (ls : List Tree) (from to : Names) (ok : IsLayer u) (layers : AreLayers ls) (is : IsPlaceable u ls from to) where
@@ -144,7 +144,7 @@ module _ (u : Tree) (ls : List Tree) (from to : Names) (ok : IsLayer u) (layers 
     copy_paths : IsStrictlySortedBy path_cmp (keys_of (copied_up u ls from).entries)
     copy_paths = subst (λ (x : Tree). IsStrictlySortedBy path_cmp (keys_of x.entries)) (sym copy_is) (all_paths u ls from last blocks true ok is.way_from takes free (missing_from u [] from) above)
 
-    way_after : walk (copied_up u ls from ∷ ls) to ≡ None
+    way_after : walk_error (copied_up u ls from ∷ ls) to ≡ None
     way_after = walk_same (u ∷ ls) (copy ∷ ls) (copied_view u ls from is.way_from ok layers) [] to ∙ is.way_to
 
     grows : Grows (copied_up u ls from) (before_move u ls from to) (missing_from (copied_up u ls from) [] to)

@@ -12,7 +12,7 @@ use Rattle.snap_layer.proofs.Paths.{split_front, begins_itself}
 use Rattle.snap_layer.proofs.Moving.{begins_length}
 use Rattle.snap_merge.specs.declared.error.FsError.TheVariants.{NotFound, NotEmpty, Invalid, BadPath, CrossDevice}
 use Rattle.snap_merge.specs.Objects.{seen, is_shown_dir, AreLayers}
-use Rattle.snap_merge.specs.Walk.{walk, walk_from}
+use Rattle.snap_merge.specs.Walk.{walk_error, walk_from}
 use Rattle.snap_merge.specs.Listing.{names}
 use Rattle.snap_merge.proofs.Listings.{listing_is}
 use Rattle.snap_copyup.specs.Copying.{is_pure}
@@ -30,8 +30,8 @@ no_bool e = cc
 
 -- what is seen at `from` may be moved to `to`
 pub record IsRenamable (u : Tree) (ls : List Tree) (from to : Names) : Type 0 where
-  pub way_from : walk (u ∷ ls) from ≡ None
-  pub way_to : walk (u ∷ ls) to ≡ None
+  pub way_from : walk_error (u ∷ ls) from ≡ None
+  pub way_to : walk_error (u ∷ ls) to ≡ None
   pub there : is_some (seen (u ∷ ls) from) ≡ true
   pub not_inside : begins from to ≡ false
   pub not_around : begins to from ≡ false
@@ -94,13 +94,13 @@ not_false false e = absurd (cc)
 module _ (u : Tree) (ls : List Tree) (from to : Names) where
   -- the tests of a rename before those of a move
   first_tests : first_error (tests (op.Rename from to) (u ∷ ls)) ≡ None
-      → (walk (u ∷ ls) from ≡ None) × (walk (u ∷ ls) to ≡ None) × (is_some (seen (u ∷ ls) from) ≡ true) × (first_error (if is_same_name u from to then [] else move_tests u ls from to) ≡ None)
+      → (walk_error (u ∷ ls) from ≡ None) × (walk_error (u ∷ ls) to ≡ None) × (is_some (seen (u ∷ ls) from) ≡ true) × (first_error (if is_same_name u from to then [] else move_tests u ls from to) ≡ None)
   first_tests passes =
       let later = if is_same_name u from to then [] else move_tests u ls from to in
       let found = error_if (not (is_some (seen (u ∷ ls) from))) NotFound in
       let root = error_if (is_root from || is_root to) Invalid in
-      let first = test_passes (walk (u ∷ ls) from) (walk (u ∷ ls) to ∷ root ∷ found ∷ later) passes in
-      let second = test_passes (walk (u ∷ ls) to) (root ∷ found ∷ later) first.1 in
+      let first = test_passes (walk_error (u ∷ ls) from) (walk_error (u ∷ ls) to ∷ root ∷ found ∷ later) passes in
+      let second = test_passes (walk_error (u ∷ ls) to) (root ∷ found ∷ later) first.1 in
       let third = test_passes root (found ∷ later) second.1 in
       let fourth = test_passes found later third.1 in
       (first.0, second.0, not_false (is_some (seen (u ∷ ls) from)) (error_if_passes (not (is_some (seen (u ∷ ls) from))) NotFound fourth.0), fourth.1)
@@ -124,7 +124,7 @@ module _ (u : Tree) (ls : List Tree) (from to : Names) where
 
   module _ (ok : IsLayer u) (layers : AreLayers ls) (other : is_same_name u from to ≡ false) where
     -- `to` goes on from `from` only where a directory is seen there
-    inside_no : walk (u ∷ ls) to ≡ None → (is_shown_dir (seen (u ∷ ls) from) && begins from to) ≡ false → begins from to ≡ false
+    inside_no : walk_error (u ∷ ls) to ≡ None → (is_shown_dir (seen (u ∷ ls) from) && begins from to) ≡ false → begins from to ≡ false
     inside_no way none = elim (split_front from to) [
       | inl within ↦ absurd (by within.0 within.1 within.2)
       | inr out ↦ out.0
@@ -133,7 +133,7 @@ module _ (u : Tree) (ls : List Tree) (from to : Names) where
         by : begins from to ≡ true → (r : Names) → to ≡ from ++ r → ⊥
         by begun [] is = no_bool (sym (same_name_path u from to (is ∙ append-nil from)) ∙ other)
         by begun (n ∷ r) is =
-            let dir = walk_dir (u ∷ ls) from [] n r (ap (walk (u ∷ ls)) (sym is) ∙ way) in
+            let dir = walk_dir (u ∷ ls) from [] n r (ap (walk_error (u ∷ ls)) (sym is) ∙ way) in
             no_bool ((λ i. sym dir i && sym begun i) ∙ none)
 
     -- `from` goes on from `to` only where something is seen in `to`

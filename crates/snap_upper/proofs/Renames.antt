@@ -17,7 +17,7 @@ use Rattle.snap_layer.proofs.Paths.{begins-append}
 use Rattle.snap_layer.proofs.Looks.{Sets, Sets-with_entry, split_path, sorted-bodies_without}
 use Rattle.snap_layer.proofs.Laws.{Replaces-with_new, sorted-with_body}
 use Rattle.snap_merge.specs.Objects.{Object, dir, file, symlink, seen, is_shown_dir, AreLayers}
-use Rattle.snap_merge.specs.Walk.{walk, walk_from}
+use Rattle.snap_merge.specs.Walk.{walk_error, walk_from}
 use Rattle.snap_merge.proofs.Views.{walk_same}
 use Rattle.snap_merge.proofs.Hiding.{hides_alike}
 use Rattle.snap_merge.proofs.Above.{nothing_seen}
@@ -95,7 +95,7 @@ keeps_from u ls front (n ∷ rest) way =
     let later = keeps_from (copied u ls front) ls (front ++ n ∷ []) rest (walk_same (u ∷ ls) (copied u ls front ∷ ls) step.view (front ++ n ∷ []) rest ∙ passes.1) in
     keeps_both u (copied u ls front) (with_parents_from (copied u ls front) ls (front ++ n ∷ []) rest) (keeps_copied u ls front passes.0) later
 
-pub keeps_parents : (u : Tree) (ls : List Tree) (p : Names) → walk (u ∷ ls) p ≡ None → Keeps u (with_parents u ls p)
+pub keeps_parents : (u : Tree) (ls : List Tree) (p : Names) → walk_error (u ∷ ls) p ≡ None → Keeps u (with_parents u ls p)
 keeps_parents u ls p way = keeps_from u ls [] p way
 
 -- ---- what is copied up
@@ -108,7 +108,7 @@ pub record IsCopied (u c : Tree) (ls : List Tree) (from : Names) : Type 0 where
   pub sorted : IsStrictlySortedBy nat_cmp (keys_of c.bodies)
   pub own : is_some (at u from) ≡ true → c ≡ u
 
-module _ (u : Tree) (ls : List Tree) (from : Names) (ok : IsLayer u) (layers : AreLayers ls) (way : walk (u ∷ ls) from ≡ None) where
+module _ (u : Tree) (ls : List Tree) (from : Names) (ok : IsLayer u) (layers : AreLayers ls) (way : walk_error (u ∷ ls) from ≡ None) where
   copied_own : is_some (at u from) ≡ true → copied_up u ls from ≡ u
   copied_own some = ap (λ (t : Tree). copied t ls from) (no_missing u ls from ok some) ∙ copied_there u ls from some
 
@@ -181,7 +181,7 @@ module _ (u : Tree) (ls : List Tree) (from to : Names) (ok : IsLayer u) (layers 
   pub copy : IsCopied u (copied_up u ls from) ls from
   copy = is_copied u ls from ok layers ready.way_from ready.there (λ dir. pure_stands (at u from) (below u ls from) (ready.pure dir))
 
-  way : walk (copied_up u ls from ∷ ls) to ≡ None
+  way : walk_error (copied_up u ls from ∷ ls) to ≡ None
   way = walk_same (u ∷ ls) (copied_up u ls from ∷ ls) (copy.view) [] to ∙ ready.way_to
 
   adds : AddsParents (copied_up u ls from) (with_parents (copied_up u ls from) ls to) ls (length to)

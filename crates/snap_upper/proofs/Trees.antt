@@ -22,7 +22,7 @@ use Rattle.snap_usage.specs.declared.usage.Usage.{Usage}
 use Rattle.snap_merge.specs.declared.error.FsError.{FsError}
 use Rattle.snap_merge.specs.declared.error.FsError.TheVariants.{Invalid, NotFound}
 use Rattle.snap_merge.specs.Objects.{Object, seen, is_shown_dir, AreLayers}
-use Rattle.snap_merge.specs.Walk.{walk}
+use Rattle.snap_merge.specs.Walk.{walk_error}
 use Rattle.snap_merge.proofs.Views.{seen_node, seen_through, seen_alike}
 use Rattle.snap_merge.proofs.Hiding.{hidden_by, hides_from_above, hides_alike}
 use Rattle.snap_merge.proofs.Above.{nothing_seen}
@@ -45,7 +45,7 @@ no_bool e = cc
 
 -- something other than the root is seen
 pub record IsErasableTree (s : List Tree) (p : Names) : Type 0 where
-  pub way : walk s p ≡ None
+  pub way : walk_error s p ≡ None
   pub below_root : p ≡ [] → ⊥
   pub there : is_some (seen s p) ≡ true
 
@@ -60,7 +60,7 @@ not_false false e = absurd (no_bool e)
 pub IsErasableTree-passed : (s : List Tree) (p : Names) → first_error (tests (op.Whiteout p) s) ≡ None → IsErasableTree s p
 IsErasableTree-passed s p passes =
     let missing = error_if (not (is_some (seen s p))) NotFound in
-    let first = test_passes (walk s p) (error_if (is_root p) Invalid ∷ missing ∷ []) passes in
+    let first = test_passes (walk_error s p) (error_if (is_root p) Invalid ∷ missing ∷ []) passes in
     let second = test_passes (error_if (is_root p) Invalid) (missing ∷ []) first.1 in
     let third = test_passes missing [] second.1 in
     record {
@@ -78,7 +78,7 @@ tree_own u ls p covers ok some is =
     ∙ ap (λ (b : Bool). with_tree_taken u p b) (sym is)
 
 -- the layer has no directory there: all that goes is a name, if anything does
-pub tree_is_erased : (u : Tree) (ls : List Tree) (p : Names) → IsLayer u → walk (u ∷ ls) p ≡ None → (IsDirAt (at u p) → ⊥) → tree_erased u ls p ≡ erased u ls p
+pub tree_is_erased : (u : Tree) (ls : List Tree) (p : Names) → IsLayer u → walk_error (u ∷ ls) p ≡ None → (IsDirAt (at u p) → ⊥) → tree_erased u ls p ≡ erased u ls p
 tree_is_erased u ls p ok way no_dir =
     let t = with_parents u ls p in
     let parents = adds_parents u ls p way in

@@ -9,7 +9,7 @@ use Rattle.snap_usage.specs.declared.usage.Usage.{Usage}
 use Rattle.snap_merge.specs.declared.error.FsError.{FsError}
 use Rattle.snap_merge.specs.declared.error.FsError.TheVariants.{NotFound, NotDir, IsDir, Exists, Invalid, NotEmpty, BadPath, CrossDevice, TooBig, LayerFull, NeedsCharge}
 use Rattle.snap_merge.specs.Objects.{Object, dir, file, symlink, seen, is_shown_dir}
-use Rattle.snap_merge.specs.Walk.{unless, walk, walk_from, walk_on}
+use Rattle.snap_merge.specs.Walk.{unless, walk_error, walk_from, walk_on}
 use Rattle.snap_copyup.specs.Copying.{is_pure}
 use Rattle.snap_upper.specs.declared.op.Op.{Op}
 use Rattle.snap_upper.specs.declared.op.Op.TheVariants.{Mkdir, Create, Put, Write, Truncate, SetMode, Symlink, Link, Unlink, Rmdir, Rename, Opaque, Whiteout}
@@ -100,7 +100,7 @@ module _ (need : Usage) where
   -- a new object's tests
   no_new : (s : List Tree) (p : Names) (mode : ℕ) → first_error (tests (Mkdir p mode) s) ≡ Some (NeedsCharge need) → ⊥
   no_new s p mode =
-      no_first (walk s p) _ (no_walk_from s [] p)
+      no_first (walk_error s p) _ (no_walk_from s [] p)
       (no_first (error_if (is_some (seen s p)) Exists) _ (no_error_if (is_some (seen s p)) Exists not_exists)
       (no_first (error_if (nat_lt most_mode mode) Invalid) [] (no_error_if (nat_lt most_mode mode) Invalid not_invalid) no_none))
 
@@ -124,54 +124,54 @@ module _ (need : Usage) where
   no_test (Mkdir p mode) s = no_new s p mode
   no_test (Create p mode) s = no_new s p mode
   no_test (Put p mode size digest) s =
-      no_first (walk s p) _ (no_walk_from s [] p)
+      no_first (walk_error s p) _ (no_walk_from s [] p)
       (no_first (error_if (is_some (seen s p)) Exists) _ (no_error_if (is_some (seen s p)) Exists not_exists)
       (no_first (error_if (nat_lt most_mode mode) Invalid) _ (no_error_if (nat_lt most_mode mode) Invalid not_invalid)
       (no_first (error_if (nat_lt most_sized_bytes size) TooBig) _ (no_error_if (nat_lt most_sized_bytes size) TooBig not_big)
       (no_first (error_if (is_long_digest digest) TooBig) [] (no_error_if (is_long_digest digest) TooBig not_big) no_none))))
   no_test (Write p offset bytes) s =
       let big = nat_lt (most_of (seen s p)) (offset + length bytes) in
-      no_first (walk s p) _ (no_walk_from s [] p)
+      no_first (walk_error s p) _ (no_walk_from s [] p)
       (no_first (file_error (seen s p)) _ (no_file_error (seen s p))
       (no_first (error_if big TooBig) [] (no_error_if big TooBig not_big) no_none))
   no_test (Truncate p size) s =
-      no_first (walk s p) _ (no_walk_from s [] p)
+      no_first (walk_error s p) _ (no_walk_from s [] p)
       (no_first (file_error (seen s p)) _ (no_file_error (seen s p))
       (no_first (error_if (nat_lt (most_of (seen s p)) size) TooBig) [] (no_error_if (nat_lt (most_of (seen s p)) size) TooBig not_big) no_none))
   no_test (SetMode p mode) s =
-      no_first (walk s p) _ (no_walk_from s [] p)
+      no_first (walk_error s p) _ (no_walk_from s [] p)
       (no_first (mode_error (seen s p)) _ (no_mode_error (seen s p))
       (no_first (error_if (nat_lt most_mode mode) Invalid) [] (no_error_if (nat_lt most_mode mode) Invalid not_invalid) no_none))
   no_test (Symlink p target) s =
-      no_first (walk s p) _ (no_walk_from s [] p)
+      no_first (walk_error s p) _ (no_walk_from s [] p)
       (no_first (error_if (is_some (seen s p)) Exists) _ (no_error_if (is_some (seen s p)) Exists not_exists)
       (no_first (error_if (is_no_target target) Invalid) _ (no_error_if (is_no_target target) Invalid not_invalid)
       (no_first (error_if (nat_lt most_target_bytes (length target)) TooBig) [] (no_error_if (nat_lt most_target_bytes (length target)) TooBig not_big) no_none)))
   no_test (Link from to) s =
-      no_first (walk s from) _ (no_walk_from s [] from)
-      (no_first (walk s to) _ (no_walk_from s [] to)
+      no_first (walk_error s from) _ (no_walk_from s [] from)
+      (no_first (walk_error s to) _ (no_walk_from s [] to)
       (no_first (link_error (seen s from)) _ (no_link_error (seen s from))
       (no_first (error_if (is_some (seen s to)) Exists) [] (no_error_if (is_some (seen s to)) Exists not_exists) no_none)))
   no_test (Unlink p) s =
-      no_first (walk s p) _ (no_walk_from s [] p)
+      no_first (walk_error s p) _ (no_walk_from s [] p)
       (no_first (name_error (seen s p)) [] (no_name_error (seen s p)) no_none)
   no_test (Rmdir p) s =
-      no_first (walk s p) _ (no_walk_from s [] p)
+      no_first (walk_error s p) _ (no_walk_from s [] p)
       (no_first (error_if (is_root p) Invalid) _ (no_error_if (is_root p) Invalid not_invalid)
       (no_first (dir_error (seen s p)) _ (no_dir_error (seen s p))
       (no_first (error_if (has_names s p) NotEmpty) [] (no_error_if (has_names s p) NotEmpty not_full) no_none)))
   no_test (Rename from to) [] = no_none
   no_test (Rename from to) (u ∷ lowers) =
       let s = u ∷ lowers in
-      no_first (walk s from) _ (no_walk_from s [] from)
-      (no_first (walk s to) _ (no_walk_from s [] to)
+      no_first (walk_error s from) _ (no_walk_from s [] from)
+      (no_first (walk_error s to) _ (no_walk_from s [] to)
       (no_first (error_if (is_root from || is_root to) Invalid) _ (no_error_if (is_root from || is_root to) Invalid not_invalid)
       (no_first (error_if (not (is_some (seen s from))) NotFound) _ (no_error_if (not (is_some (seen s from))) NotFound not_missing) (no_rename u lowers from to (is_same_name u from to)))))
   no_test (Opaque p) s =
-      no_first (walk s p) _ (no_walk_from s [] p)
+      no_first (walk_error s p) _ (no_walk_from s [] p)
       (no_first (dir_error (seen s p)) [] (no_dir_error (seen s p)) no_none)
   no_test (Whiteout p) s =
-      no_first (walk s p) _ (no_walk_from s [] p)
+      no_first (walk_error s p) _ (no_walk_from s [] p)
       (no_first (error_if (is_root p) Invalid) _ (no_error_if (is_root p) Invalid not_invalid)
       (no_first (error_if (not (is_some (seen s p))) NotFound) [] (no_error_if (not (is_some (seen s p))) NotFound not_missing) no_none))
 

@@ -14,7 +14,7 @@ use Rattle.snap_layer.specs.declared.node.Node.TheVariants.{Dir, File, Symlink, 
 use Rattle.snap_layer.specs.declared.node.Body.{Body}
 use Rattle.snap_layer.specs.declared.node.Body.TheVariants as body_kinds
 use Rattle.snap_layer.specs.Tree.{Tree, Entries, Bodies, path_cmp, at, body, number_at, number_of}
-use Rattle.snap_layer.specs.Counts.{inode_count, block_count, blocks_of, body_blocks, most_inodes}
+use Rattle.snap_layer.specs.Counts.{inode_count, block_count, blocks_of, body_blocks, most_inodes, most_file_blocks}
 use Rattle.snap_layer.specs.Layers.{IsLayer, IsFile, IsSymlink}
 use Rattle.snap_layer.specs.Edits.{with_entry, with_node, with_new, with_body, with_filled}
 use Rattle.snap_layer.proofs.Bounds.{blocks_of_bodies}
@@ -25,7 +25,7 @@ use Rattle.snap_layer.proofs.Kept.{IsLayer-with_body}
 use Rattle.snap_layer.proofs.Laws.{Replaces-with_new, SetsBody-with_new}
 use Rattle.snap_layer.specs.Contents.{body_content, size_of, IsContent}
 use Rattle.snap_merge.specs.Objects.{Object, dir, file, symlink, seen, shown_body}
-use Rattle.snap_merge.specs.Walk.{walk}
+use Rattle.snap_merge.specs.Walk.{walk_error}
 use Rattle.snap_merge.specs.declared.error.FsError.TheVariants.{TooBig}
 use Rattle.snap_merge.proofs.Views.{seen_node}
 use Rattle.snap_copyup.specs.declared.parents.Last.TheVariants as last
@@ -41,7 +41,7 @@ use Rattle.snap_upper.proofs.Outcomes.{test_passes, error_if_passes}
 
 -- the tests of a write have passed
 pub record IsWritable (s : List Tree) (p : Names) (offset : ℕ) (bytes : List ℕ) : Type 0 where
-  pub way : walk s p ≡ None
+  pub way : walk_error s p ≡ None
   pub file : file_error (seen s p) ≡ None
   pub short : offset + length bytes ≤ most_of (seen s p)
 
@@ -51,7 +51,7 @@ short_end m n e = ltb-false m n e
 pub IsWritable-passed : (s : List Tree) (p : Names) (offset : ℕ) (bytes : List ℕ) → first_error (tests (op.Write p offset bytes) s) ≡ None → IsWritable s p offset bytes
 IsWritable-passed s p offset bytes passes =
     let last = error_if (nat_lt (most_of (seen s p)) (offset + length bytes)) TooBig in
-    let first = test_passes (walk s p) (file_error (seen s p) ∷ last ∷ []) passes in
+    let first = test_passes (walk_error s p) (file_error (seen s p) ∷ last ∷ []) passes in
     let second = test_passes (file_error (seen s p)) (last ∷ []) first.1 in
     let third = test_passes last [] second.1 in
     record {
@@ -62,14 +62,14 @@ IsWritable-passed s p offset bytes passes =
 
 -- the tests of a truncation have passed
 pub record IsSizable (s : List Tree) (p : Names) (size : ℕ) : Type 0 where
-  pub way : walk s p ≡ None
+  pub way : walk_error s p ≡ None
   pub file : file_error (seen s p) ≡ None
   pub short : size ≤ most_of (seen s p)
 
 pub IsSizable-passed : (s : List Tree) (p : Names) (size : ℕ) → first_error (tests (op.Truncate p size) s) ≡ None → IsSizable s p size
 IsSizable-passed s p size passes =
     let last = error_if (nat_lt (most_of (seen s p)) size) TooBig in
-    let first = test_passes (walk s p) (file_error (seen s p) ∷ last ∷ []) passes in
+    let first = test_passes (walk_error s p) (file_error (seen s p) ∷ last ∷ []) passes in
     let second = test_passes (file_error (seen s p)) (last ∷ []) first.1 in
     let third = test_passes last [] second.1 in
     record {
@@ -181,7 +181,7 @@ own_filled u ls p k m old f ok is file_is =
     ∙ own_layer u ls p k m old f is file_is
 
 -- the next layer, where a lower layer has it
-pub copy_filled : (u : Tree) (ls : List Tree) (p : Names) (m : ℕ) (old : Content) (f : Content → Content) → walk (u ∷ ls) p ≡ None → at u p ≡ None → seen (u ∷ ls) p ≡ Some (file m old)
+pub copy_filled : (u : Tree) (ls : List Tree) (p : Names) (m : ℕ) (old : Content) (f : Content → Content) → walk_error (u ∷ ls) p ≡ None → at u p ≡ None → seen (u ∷ ls) p ≡ Some (file m old)
     → with_content (copied_up u ls p) (number_at (copied_up u ls p) p) f ≡ with_last (last.File m (f old)) (with_parents u ls p) p
 copy_filled u ls p m old f way none was =
     let adds = adds_parents u ls p way in
@@ -207,5 +207,5 @@ rewrites t k m old new ok is short =
     }
 
 -- a layer's blocks are few
-pub few_blocks : (t : Tree) → IsLayer t → block_count t ≤ most_inodes + most_inodes * 268435456
+pub few_blocks : (t : Tree) → IsLayer t → block_count t ≤ most_inodes + most_inodes * most_file_blocks
 few_blocks t ok = omega (arith, ok.few, ok.most.1, blocks_of_bodies t ok)

@@ -1,5 +1,4 @@
 -- What is added to a layer, and what it takes.
--- Cited by invariants and private clauses alone.
 use Rattle.std.specs.Prelude.{◌≡◌, ◌==◌, ◌+◌, [], ◌∷◌, ◌++◌, if◌then◌else◌, ℕ, List, Bool, true, false, Option, Some, None, is_some}
 use Rattle.snap_path.specs.Text.{Names, begins}
 use Rattle.snap_layer.specs.declared.node.Node.TheVariants as node
@@ -11,7 +10,7 @@ use Rattle.snap_layer.specs.Layers.{IsLayer}
 use Rattle.snap_layer.specs.Edits.{with_new, with_node, IsFree}
 use Rattle.snap_usage.specs.declared.usage.Usage.{Usage}
 use Rattle.snap_merge.specs.Objects.{Object, dir, file, symlink, seen, is_shown_dir}
-use Rattle.snap_merge.specs.Walk.{walk}
+use Rattle.snap_merge.specs.Walk.{walk_error}
 use Rattle.snap_copyup.specs.declared.parents.Last.{Last}
 use Rattle.snap_copyup.specs.declared.parents.Last.TheVariants.{Nothing, Dir, File, Symlink, Whiteout}
 
@@ -41,8 +40,8 @@ object_blocks (Some (symlink target)) = 0
 
 -- what is seen at `from` can get the path `to`: neither path lies at or below the other, what is copied up is no directory, and in `to` there are whiteouts alone
 pub record IsPlaceable (u : Tree) (ls : List Tree) (from to : Names) : Type 0 where
-  pub way_from : walk (u ∷ ls) from ≡ None
-  pub way_to : walk (u ∷ ls) to ≡ None
+  pub way_from : walk_error (u ∷ ls) from ≡ None
+  pub way_to : walk_error (u ∷ ls) to ≡ None
   pub there : is_some (seen (u ∷ ls) from) ≡ true
   pub lower : at u from ≡ None → is_shown_dir (seen (u ∷ ls) from) ≡ false
   pub not_inside : begins from to ≡ false

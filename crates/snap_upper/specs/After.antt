@@ -1,5 +1,4 @@
 -- The upper layer after an operation, or the operation's error.
--- Cited by `apply`, `apply_within`, `plan` and others.
 use Rattle.std.specs.Prelude.{ℕ, ◌+◌, ◌==◌, ◌||◌, ◌&&◌, Bool, true, false, nat_lt, not, List, [], ◌∷◌, length, Option, Some, None, is_some, if◌then◌else◌, Result, Ok, Err}
 use Rattle.std.specs.List.{list_any}
 use Rattle.std.specs.Option.{option_map_or}
@@ -18,7 +17,7 @@ use Rattle.snap_usage.specs.Counted.{count_of, covers}
 use Rattle.snap_merge.specs.declared.error.FsError.{FsError}
 use Rattle.snap_merge.specs.declared.error.FsError.TheVariants.{NotFound, NotDir, IsDir, Exists, NotEmpty, Invalid, BadPath, CrossDevice, NotPermitted, TooBig, LayerFull, NeedsCharge}
 use Rattle.snap_merge.specs.Objects.{Object, dir, file, symlink, seen, is_shown_dir}
-use Rattle.snap_merge.specs.Walk.{walk, unless}
+use Rattle.snap_merge.specs.Walk.{walk_error, unless}
 use Rattle.snap_merge.specs.Listing.{names}
 use Rattle.snap_path.specs.Text.{Names, text_below, begins}
 use Rattle.snap_upper.specs.declared.op.Op.{Op}
@@ -93,24 +92,24 @@ move_tests u lowers from to =
 
 -- the tests of a rename over the upper layer and the lower ones (rename(2))
 abbrev pub rename_tests : Tree → List Tree → Names → Names → List (Option FsError)
-rename_tests u lowers from to = walk (u ∷ lowers) from ∷ walk (u ∷ lowers) to ∷ error_if (is_root from || is_root to) Invalid ∷ error_if (not (is_some (seen (u ∷ lowers) from))) NotFound ∷ (if is_same_name u from to then [] else move_tests u lowers from to)
+rename_tests u lowers from to = walk_error (u ∷ lowers) from ∷ walk_error (u ∷ lowers) to ∷ error_if (is_root from || is_root to) Invalid ∷ error_if (not (is_some (seen (u ∷ lowers) from))) NotFound ∷ (if is_same_name u from to then [] else move_tests u lowers from to)
 
 -- the tests of an operation over the layers, in order (mkdir(2), open(2) with O_CREAT and O_EXCL, pwrite(2), truncate(2), chmod(2), symlink(2), link(2), unlink(2), rmdir(2); overlayfs.rst, "whiteouts and opaque directories"; OCI image specification, "Whiteouts")
 abbrev pub tests : Op → List Tree → List (Option FsError)
-tests (Mkdir path mode) s = walk s path ∷ error_if (is_some (seen s path)) Exists ∷ error_if (nat_lt most_mode mode) Invalid ∷ []
-tests (Create path mode) s = walk s path ∷ error_if (is_some (seen s path)) Exists ∷ error_if (nat_lt most_mode mode) Invalid ∷ []
-tests (Put path mode size digest) s = walk s path ∷ error_if (is_some (seen s path)) Exists ∷ error_if (nat_lt most_mode mode) Invalid ∷ error_if (nat_lt most_sized_bytes size) TooBig ∷ error_if (is_long_digest digest) TooBig ∷ []
-tests (Write path offset bytes) s = walk s path ∷ error_by_kind (Some IsDir) None (Some Invalid) (seen s path) ∷ error_if (nat_lt (most_of (seen s path)) (offset + length bytes)) TooBig ∷ []
-tests (Truncate path size) s = walk s path ∷ error_by_kind (Some IsDir) None (Some Invalid) (seen s path) ∷ error_if (nat_lt (most_of (seen s path)) size) TooBig ∷ []
-tests (SetMode path mode) s = walk s path ∷ error_by_kind None None (Some Invalid) (seen s path) ∷ error_if (nat_lt most_mode mode) Invalid ∷ []
-tests (Symlink path target) s = walk s path ∷ error_if (is_some (seen s path)) Exists ∷ error_if (is_no_target target) Invalid ∷ error_if (nat_lt most_target_bytes (length target)) TooBig ∷ []
-tests (Link from to) s = walk s from ∷ walk s to ∷ error_by_kind (Some NotPermitted) None None (seen s from) ∷ error_if (is_some (seen s to)) Exists ∷ []
-tests (Unlink path) s = walk s path ∷ error_by_kind (Some IsDir) None None (seen s path) ∷ []
-tests (Rmdir path) s = walk s path ∷ error_if (is_root path) Invalid ∷ error_by_kind None (Some NotDir) (Some NotDir) (seen s path) ∷ error_if (has_names s path) NotEmpty ∷ []
+tests (Mkdir path mode) s = walk_error s path ∷ error_if (is_some (seen s path)) Exists ∷ error_if (nat_lt most_mode mode) Invalid ∷ []
+tests (Create path mode) s = walk_error s path ∷ error_if (is_some (seen s path)) Exists ∷ error_if (nat_lt most_mode mode) Invalid ∷ []
+tests (Put path mode size digest) s = walk_error s path ∷ error_if (is_some (seen s path)) Exists ∷ error_if (nat_lt most_mode mode) Invalid ∷ error_if (nat_lt most_sized_bytes size) TooBig ∷ error_if (is_long_digest digest) TooBig ∷ []
+tests (Write path offset bytes) s = walk_error s path ∷ error_by_kind (Some IsDir) None (Some Invalid) (seen s path) ∷ error_if (nat_lt (most_of (seen s path)) (offset + length bytes)) TooBig ∷ []
+tests (Truncate path size) s = walk_error s path ∷ error_by_kind (Some IsDir) None (Some Invalid) (seen s path) ∷ error_if (nat_lt (most_of (seen s path)) size) TooBig ∷ []
+tests (SetMode path mode) s = walk_error s path ∷ error_by_kind None None (Some Invalid) (seen s path) ∷ error_if (nat_lt most_mode mode) Invalid ∷ []
+tests (Symlink path target) s = walk_error s path ∷ error_if (is_some (seen s path)) Exists ∷ error_if (is_no_target target) Invalid ∷ error_if (nat_lt most_target_bytes (length target)) TooBig ∷ []
+tests (Link from to) s = walk_error s from ∷ walk_error s to ∷ error_by_kind (Some NotPermitted) None None (seen s from) ∷ error_if (is_some (seen s to)) Exists ∷ []
+tests (Unlink path) s = walk_error s path ∷ error_by_kind (Some IsDir) None None (seen s path) ∷ []
+tests (Rmdir path) s = walk_error s path ∷ error_if (is_root path) Invalid ∷ error_by_kind None (Some NotDir) (Some NotDir) (seen s path) ∷ error_if (has_names s path) NotEmpty ∷ []
 tests (Rename from to) [] = []
 tests (Rename from to) (u ∷ lowers) = rename_tests u lowers from to
-tests (Opaque path) s = walk s path ∷ error_by_kind None (Some NotDir) (Some NotDir) (seen s path) ∷ []
-tests (Whiteout path) s = walk s path ∷ error_if (is_root path) Invalid ∷ error_if (not (is_some (seen s path))) NotFound ∷ []
+tests (Opaque path) s = walk_error s path ∷ error_by_kind None (Some NotDir) (Some NotDir) (seen s path) ∷ []
+tests (Whiteout path) s = walk_error s path ∷ error_if (is_root path) Invalid ∷ error_if (not (is_some (seen s path))) NotFound ∷ []
 
 -- the first error of the tests
 abbrev pub first_error : List (Option FsError) → Option FsError

@@ -1,5 +1,4 @@
 -- How an operation changes what is seen.
--- Cited by `apply`.
 use Rattle.std.specs.Prelude.{◌≡◌, ◌⊎◌, ℕ, List, [], ◌∷◌, ◌++◌, Option, Some, None, Ok}
 use Rattle.std.specs.Option.{option_map}
 use Rattle.snap_path.specs.Text.{Names}

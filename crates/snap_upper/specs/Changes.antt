@@ -1,5 +1,4 @@
 -- What an operation does to the layer, once its tests have passed.
--- Cited by invariants and private clauses alone.
 use Rattle.std.specs.Prelude.{◌≡◌, ◌≤◌, ℕ, ◌∷◌, ◌++◌, [], Bool, true, false, List, Option, Some, None, Ok, is_some, IsSome}
 use Rattle.std.specs.Option.{option_copied}
 use Rattle.snap_path.specs.Limits.{most_mode}
@@ -11,7 +10,7 @@ use Rattle.snap_layer.specs.declared.content.Content.TheVariants as content_kind
 use Rattle.snap_layer.specs.Edits.{HasMode, IsFree, IsInnerDir, with_mode, with_opaque}
 use Rattle.snap_merge.specs.Objects.{Object, file, seen, is_shown_dir, AreLayers}
 use Rattle.snap_layer.specs.declared.node.Body.TheVariants as body_kinds
-use Rattle.snap_merge.specs.Walk.{walk}
+use Rattle.snap_merge.specs.Walk.{walk_error}
 use Rattle.snap_copyup.specs.declared.parents.Last.{Last}
 use Rattle.snap_copyup.specs.declared.parents.Last.TheVariants as last
 use Rattle.snap_copyup.specs.Copying.{below, with_parents}
@@ -64,11 +63,11 @@ outcome (Move from to leaves covers) u lowers = limited (renamed u lowers from.n
 -- the change can be made: what the steps ask for is there
 abbrev pub IsReady : Change → Tree → List Tree → Type 0
 IsReady Nothing u lowers = Unit {0}
-IsReady (Put path new) u lowers = (walk (u ∷ lowers) path.now ≡ None) × CanStand (as_last new) u path.now × IsSound new
+IsReady (Put path new) u lowers = (walk_error (u ∷ lowers) path.now ≡ None) × CanStand (as_last new) u path.now × IsSound new
 IsReady (Fill number size edit) u lowers = (m : ℕ) × (old : Content) × (body u number ≡ Some (body_kinds.File m old)) × (size ≡ size_of old) × IsShort edit old × IsContent (edited edit old)
 IsReady (SetMode path mode) u lowers = HasMode (at u path.now) × (mode ≤ most_mode)
 IsReady (SetOpaque path) u lowers = IsDirAt (at u path.now)
-IsReady (Erase path covers) u lowers = (walk (u ∷ lowers) path.now ≡ None) × (is_some (seen (u ∷ lowers) path.now) ≡ true) × (path.now ≡ [] → ⊥) × ((n : List ℕ) → IsFree (at u (path.now ++ n ∷ []))) × (covers ≡ is_some (below u lowers path.now))
+IsReady (Erase path covers) u lowers = (walk_error (u ∷ lowers) path.now ≡ None) × (is_some (seen (u ∷ lowers) path.now) ≡ true) × (path.now ≡ [] → ⊥) × ((n : List ℕ) → IsFree (at u (path.now ++ n ∷ []))) × (covers ≡ is_some (below u lowers path.now))
 IsReady (EraseTree path covers) u lowers = IsInnerDir u path.now × (covers ≡ is_some (below u lowers path.now))
 IsReady (Link from to) u lowers = first_error (tests (op.Link from.now to.now) (u ∷ lowers)) ≡ None
 IsReady (Move from to leaves covers) u lowers = (first_error (tests (op.Rename from.now to.now) (u ∷ lowers)) ≡ None) × (is_same_name u from.now to.now ≡ false) × (leaves ≡ is_some (below u lowers from.now)) × (covers ≡ is_some (below u lowers to.now))

@@ -1,5 +1,4 @@
 -- Which operations take no memory, so that none can be refused to them.
--- Cited by `apply`, `apply_within`.
 use Rattle.std.specs.Prelude.{◌≡◌, ℕ, ◌≤◌, length, Option, Some, None, IsSome, true}
 use Rattle.snap_layer.specs.declared.content.Content.{Content}
 use Rattle.snap_layer.specs.declared.content.Content.TheVariants.{Bytes, Sized}

@@ -1,7 +1,7 @@
 // What an operation does to the layer, once its tests have passed.
 ghost use Rattle.std.specs.Prelude.{◌≡◌, ◌↔◌, ◌≤◌, Bool, IfOk, IsTrue};
 ghost use Rattle.std.specs.Option.{option_copied};
-ghost use Rattle.snap_layer.specs.Counts.{blocks_of};
+ghost use Rattle.snap_layer.specs.Counts.{blocks_of, most_file_blocks};
 ghost use Rattle.snap_layer.specs.Contents.{edited, size_of, IsContent, IsShort};
 ghost use Rattle.snap_layer.specs.Tree.{at, number_at, IsDirAt};
 ghost use Rattle.snap_upper.specs.Adding.{Takes};
@@ -97,7 +97,7 @@ impl<'a> New<'a> {
     /// The blocks that it takes.
     pub(crate) fn blocks(self) -> u64
         requires { IsSound self }
-        ensures few { result ≤ 268435456 }
+        ensures few { result ≤ most_file_blocks }
         ensures takes { (numbered : Bool) → is_numbered self.entry ≡ numbered → Takes (as_last self.entry) result numbered }
     {
         match self {
@@ -154,7 +154,7 @@ fn edited_blocks(old: &Content, edit: Edit<'_>) -> u64
     requires short { IsShort edit old.now }
     requires fits { IsContent (edited edit old.now) }
     ensures same { result ≡ blocks_of (size_of (edited edit.entry old.now)) }
-    ensures few { result ≤ 268435456 }
+    ensures few { result ≤ most_file_blocks }
 {
     let was = old.size();
     let after = edit.size(was);

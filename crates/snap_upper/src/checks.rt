@@ -6,10 +6,11 @@ ghost use Rattle.std.specs.List.{list_any};
 ghost use Rattle.snap_path.specs.Memory.{no_memory};
 ghost use Rattle.snap_path.specs.Text.{begins};
 ghost use Rattle.snap_layer.specs.Contents.{most_bytes, size_of};
+ghost use Rattle.snap_layer.specs.Layers.{IsLayer};
 ghost use Rattle.snap_layer.specs.declared.content.Content.{Content as ContentValue};
 ghost use Rattle.snap_merge.specs.declared.error.FsError.{FsError};
 ghost use Rattle.snap_merge.specs.Objects.{object, dir, file, seen, is_shown_dir, AreLayers};
-ghost use Rattle.snap_merge.specs.Walk.{walk};
+ghost use Rattle.snap_merge.specs.Walk.{walk_error};
 ghost use Rattle.snap_copyup.specs.Copying.{below};
 ghost use Rattle.snap_upper.specs.After.{tests, most_of, first_error, error_if, has_names, is_long_digest, is_no_target, move_tests, kind_error, is_root, is_same_name, is_same_path, is_same_number, moves_too_long, is_late, lists_names, error_by_kind};
 ghost use Rattle.snap_upper.specs.declared.op.Op.TheVariants as op;
@@ -24,7 +25,7 @@ use std::alloc::Global;
 
 /// Walks to the path, at which nothing may be seen.
 fn check_unseen(stack: &Stack<'_>, path: &Path) -> Result<(), FsError>
-    ensures error { result_err result ≡ first_error (walk stack.now path.now ∷ error_if (is_some (seen stack.now path.now)) FsError.Exists ∷ []) }
+    ensures error { result_err result ≡ first_error (walk_error stack.now path.now ∷ error_if (is_some (seen stack.now path.now)) FsError.Exists ∷ []) }
     ensures layers { AreLayers stack.now }
 {
     if stack.walk_to(path)?.is_some() {
@@ -254,7 +255,7 @@ fn check_empty(
     found: Option<Seen<'_>>,
 ) -> Result<(), FsError>
     requires seen { option_map object found ≡ seen stack.now path.now }
-    requires way { walk stack.now path.now ≡ None }
+    requires way { walk_error stack.now path.now ≡ None }
     requires layers { AreLayers stack.now }
     ensures ok { OnOk result (has_names stack.now path.now ≡ false) }
     ensures error { IfErr result (λ e. (e ≡ FsError.OutOfMemory no_memory) ⊎ ((e ≡ FsError.NotEmpty) × (has_names stack.now path.now ≡ true))) }
@@ -354,7 +355,7 @@ pub(crate) fn check_rename(
 
 /// Tests the ways to both paths, that neither is the root, and that something is seen at `from`.
 fn check_ends<'a>(stack: &Stack<'a>, from: &Path, to: &Path) -> Result<Ends<'a>, FsError>
-    ensures error { result_err result ≡ first_error (walk stack.now from.now ∷ walk stack.now to.now ∷ error_if (is_root from.now || is_root to.now) FsError.Invalid ∷ error_if (not (is_some (seen stack.now from.now))) FsError.NotFound ∷ []) }
+    ensures error { result_err result ≡ first_error (walk_error stack.now from.now ∷ walk_error stack.now to.now ∷ error_if (is_root from.now || is_root to.now) FsError.Invalid ∷ error_if (not (is_some (seen stack.now from.now))) FsError.NotFound ∷ []) }
     ensures seen { IfOk result (λ ends. (option_map object ends.moved ≡ seen stack.now from.now) × (option_map object ends.target ≡ seen stack.now to.now)) }
     ensures layers { AreLayers stack.now }
 {
@@ -436,7 +437,7 @@ fn check_move(
 ) -> Result<(), FsError>
     requires seen { (option_map object ends.moved ≡ seen (layer.now ∷ lowers.now) from.now) × (option_map object ends.target ≡ seen (layer.now ∷ lowers.now) to.now) }
     requires under { option_map object under ≡ below layer.now lowers.now from.now }
-    requires way { walk (layer.now ∷ lowers.now) to.now ≡ None }
+    requires way { walk_error (layer.now ∷ lowers.now) to.now ≡ None }
     requires roots { (is_root from.now || is_root to.now) ≡ false }
     requires layers { AreLayers (layer.now ∷ lowers.now) }
     ensures ok { OnOk result (first_error (move_tests layer.now lowers.now from.now to.now) ≡ None) }
@@ -460,10 +461,10 @@ fn check_move(
 
 /// Whether a path of the layer at or below `from` would be too long at `to`.
 fn is_too_long(layer: &Layer, from: &Path, to: &Path) -> bool
-    requires { (is_root from.now || is_root to.now) ≡ false }
+    requires roots { (is_root from.now || is_root to.now) ≡ false }
+    requires layer { IsLayer layer.now }
     ensures { result ≡ moves_too_long layer.now from.now to.now }
 {
-    let _ = &layer.is_layer;
     !layer.has_short_paths(from, to)
 }
 

@@ -1,15 +1,15 @@
 // Names in the upper layer: one more for a file or a symlink, and a rename.
 ghost use Rattle.std.specs.Prelude.{◌≡◌, ◌⊎◌, ◌∷◌, OnOk, OnErr, IfErr, Ok, Err, Some, None, IsSome, is_some, false};
 ghost use Rattle.snap_path.specs.Memory.{no_memory};
-ghost use Rattle.snap_path.specs.Text.{begins};
+ghost use Rattle.snap_path.specs.Text.{IsPath, begins};
 ghost use Rattle.snap_layer.specs.Tree.{at, body, leaf_node, number_at};
 ghost use Rattle.snap_layer.specs.Layers.{IsBody, IsLayer};
-ghost use Rattle.snap_layer.specs.Edits.{with_linked, with_name, with_new, with_node, name_of, HasParent, HasPlace, HasRooms, IsMovable};
+ghost use Rattle.snap_layer.specs.Edits.{with_linked, with_name, with_new, with_node, named_node, HasParent, HasPlace, HasRooms, IsMovable};
 ghost use Rattle.snap_layer.specs.declared.node.Body.{Body};
 ghost use Rattle.snap_layer.specs.declared.node.Node.TheVariants as Node;
 ghost use Rattle.snap_merge.specs.declared.error.FsError.{FsError};
 ghost use Rattle.snap_merge.specs.Objects.{AreLayers};
-ghost use Rattle.snap_merge.specs.Walk.{walk};
+ghost use Rattle.snap_merge.specs.Walk.{walk_error};
 ghost use Rattle.snap_copyup.specs.Copying.{below, object_body, with_parents};
 ghost use Rattle.snap_copyup.specs.Places.{IsRefusal};
 ghost use Rattle.snap_upper.specs.After.{tests, first_error, limited, next_layer, is_same_name, renamed, shifted};
@@ -31,6 +31,7 @@ pub(crate) fn link(
     to: &Path,
 ) -> Result<(), FsError>
     requires layers { AreLayers lowers.now }
+    requires layer { IsLayer layer.old }
     requires passes { first_error (tests (op.Link from.now to.now) (layer.old ∷ lowers.now)) ≡ None }
     ensures ok { OnOk result (limited (next_layer (op.Link from.now to.now) layer.old lowers.now) ≡ Ok layer.new) }
     ensures error { IfErr result (λ e. (e ≡ FsError.OutOfMemory no_memory) ⊎ (limited (next_layer (op.Link from.now to.now) layer.old lowers.now) ≡ Err e)) }
@@ -39,19 +40,19 @@ pub(crate) fn link(
     if let Err(error) = add_link(layer, lowers, from, to) {
         return Err(error);
     }
-    let _ = &layer.is_layer;
     Ok(())
 }
 
 /// Adds the name, to a file or symlink of the layer or to a copy of a lower one.
 fn add_link(layer: &mut Layer, lowers: &[Shared], from: &Path, to: &Path) -> Result<(), FsError>
     requires layers { AreLayers lowers.now }
+    requires layer { IsLayer layer.old }
     requires passes { first_error (tests (op.Link from.now to.now) (layer.old ∷ lowers.now)) ≡ None }
     ensures ok { OnOk result (layer.new ≡ next_layer (op.Link from.now to.now) layer.old lowers.now) }
+    ensures layer { OnOk result (IsLayer layer.new) }
     ensures error { IfErr result (λ e. IsRefusal (next_layer (op.Link from.now to.now) layer.old lowers.now) e) }
     ensures unchanged { OnErr result (layer.new ≡ layer.old) }
 {
-    let _ = &layer.is_layer;
     if let Some(number) = own_number(layer, from) {
         return add_dirs_and_name(layer, lowers, to, number);
     }
@@ -61,13 +62,14 @@ fn add_link(layer: &mut Layer, lowers: &[Shared], from: &Path, to: &Path) -> Res
 /// Links a lower file or symlink: a copy of it gets both names, once the directories above them are added.
 fn link_lower(layer: &mut Layer, lowers: &[Shared], from: &Path, to: &Path) -> Result<(), FsError>
     requires layers { AreLayers lowers.now }
+    requires layer { IsLayer layer.old }
     requires passes { first_error (tests (op.Link from.now to.now) (layer.old ∷ lowers.now)) ≡ None }
     requires lower { number_at layer.old from.now ≡ None }
     ensures ok { OnOk result (layer.new ≡ next_layer (op.Link from.now to.now) layer.old lowers.now) }
+    ensures layer { OnOk result (IsLayer layer.new) }
     ensures error { IfErr result (λ e. IsRefusal (next_layer (op.Link from.now to.now) layer.old lowers.now) e) }
     ensures unchanged { OnErr result (layer.new ≡ layer.old) }
 {
-    let _ = &layer.is_layer;
     let (above_from, above_to) = add_dirs_of_both(layer, lowers, from, to)?;
     if let Err(error) = put_linked_copy(layer, lowers, from, to) {
         take_all(layer, &above_to);
@@ -85,8 +87,10 @@ fn put_linked_copy(
     to: &Path,
 ) -> Result<(), FsError>
     requires layers { AreLayers lowers.now }
+    requires layer { IsLayer layer.old }
     requires rooms { HasRooms layer.old from.now to.now }
     ensures ok { OnOk result ((b : Body) → object_body (below layer.old lowers.now from.now) ≡ Some b → layer.new ≡ with_linked layer.old from.now to.now b) }
+    ensures layer { OnOk result (IsLayer layer.new) }
     ensures error { IfErr result (λ e. (b : Body) → object_body (below layer.old lowers.now from.now) ≡ Some b → IsRefusal (with_linked layer.old from.now to.now b) e) }
     ensures unchanged { OnErr result (layer.new ≡ layer.old) }
 {
@@ -104,11 +108,12 @@ fn add_dirs_and_name(
     to: &Path,
     number: u32,
 ) -> Result<(), FsError>
-    requires way { walk (layer.old ∷ lowers.now) to.now ≡ None }
+    requires way { walk_error (layer.old ∷ lowers.now) to.now ≡ None }
     requires place { HasPlace (with_parents layer.old lowers.now to.now) to.now }
     requires there { IsSome (body layer.old number) }
     requires apart { number_at layer.old to.now ≡ Some number → ⊥ }
-    ensures ok { OnOk result (layer.new ≡ with_name (with_parents layer.old lowers.now to.now) to.now (name_of number (body layer.old number))) }
+    ensures ok { OnOk result (layer.new ≡ with_name (with_parents layer.old lowers.now to.now) to.now (named_node number (body layer.old number))) }
+    ensures layer { OnOk result (IsLayer layer.new) }
     ensures error { IfErr result (λ e. IsRefusal (with_parents layer.old lowers.now to.now) e) }
     ensures unchanged { OnErr result (layer.new ≡ layer.old) }
 {
@@ -131,6 +136,7 @@ pub(crate) fn shift(
     covers: bool,
 ) -> Result<(), FsError>
     requires layers { AreLayers lowers.now }
+    requires layer { IsLayer layer.old }
     requires passes { first_error (tests (op.Rename from.now to.now) (layer.old ∷ lowers.now)) ≡ None }
     requires moves { is_same_name layer.old from.now to.now ≡ false }
     requires leaves { leaves ≡ is_some (below layer.old lowers.now from.now) }
@@ -139,15 +145,11 @@ pub(crate) fn shift(
     ensures error { IfErr result (λ e. (e ≡ FsError.OutOfMemory no_memory) ⊎ (limited (renamed layer.old lowers.now from.now to.now) ≡ Err e)) }
     ensures unchanged { OnErr result (layer.new ≡ layer.old) }
 {
-    let _ = to.names();
-    let _ = &layer.is_layer;
     if layer.at(from).is_none() {
         shift_lower(layer, lowers, from, to)?;
-        let _ = &layer.is_layer;
         return Ok(());
     }
     add_dirs_and_move(layer, lowers, from, to, leaves, covers)?;
-    let _ = &layer.is_layer;
     Ok(())
 }
 
@@ -158,16 +160,16 @@ pub(crate) fn shift(
 /// takes no fewer inodes, though what stands at `to` goes: that is no directory, so that one inode at most goes.
 fn shift_lower(layer: &mut Layer, lowers: &[Shared], from: &Path, to: &Path) -> Result<(), FsError>
     requires layers { AreLayers lowers.now }
+    requires layer { IsLayer layer.old }
     requires passes { first_error (tests (op.Rename from.now to.now) (layer.old ∷ lowers.now)) ≡ None }
     requires moves { is_same_name layer.old from.now to.now ≡ false }
     requires lower { at layer.old from.now ≡ None }
     ensures ok { OnOk result (layer.new ≡ renamed layer.old lowers.now from.now to.now) }
+    ensures layer { OnOk result (IsLayer layer.new) }
     ensures error { IfErr result (λ e. IsRefusal (renamed layer.old lowers.now from.now to.now) e) }
     ensures unchanged { OnErr result (layer.new ≡ layer.old) }
 {
-    let _ = &layer.is_layer;
     let (above_from, above_to) = add_dirs_of_both(layer, lowers, from, to)?;
-    let _ = &layer.is_layer;
     if let Err(error) = put_shifted_copy(layer, lowers, from, to) {
         take_all(layer, &above_to);
         take_all(layer, &above_from);
@@ -184,16 +186,17 @@ fn put_shifted_copy(
     to: &Path,
 ) -> Result<(), FsError>
     requires layers { AreLayers lowers.now }
+    requires layer { IsLayer layer.old }
     requires bare { at layer.old from.now ≡ None }
     requires parent { HasParent layer.old from.now }
     requires place { HasPlace layer.old to.now }
     requires not_inside { begins from.now to.now ≡ false }
     requires not_around { begins to.now from.now ≡ false }
     ensures ok { OnOk result ((b : Body) → object_body (below layer.old lowers.now from.now) ≡ Some b → layer.new ≡ with_shifted layer.old from.now to.now b) }
+    ensures layer { OnOk result (IsLayer layer.new) }
     ensures error { IfErr result (λ e. (b : Body) → object_body (below layer.old lowers.now from.now) ≡ Some b → IsRefusal (with_node layer.old from.now Node.Whiteout) e ⊎ IsRefusal (with_shifted layer.old from.now to.now b) e) }
     ensures unchanged { OnErr result (layer.new ≡ layer.old) }
 {
-    let _ = &layer.is_layer;
     let Some(body) = body_below(layer, lowers, from)? else {
         return Ok(());
     };
@@ -210,6 +213,7 @@ fn put_body(layer: &mut Layer, path: &Path, body: Body) -> Result<(), FsError>
     requires place { HasPlace layer.old path.now }
     requires fits { IsBody body }
     ensures ok { OnOk result (layer.new ≡ with_new layer.old path.now (leaf_node layer.old.next body) body) }
+    ensures layer { OnOk result (IsLayer layer.new) }
     ensures error { IfErr result (λ e. IsRefusal (with_new layer.old path.now (leaf_node layer.old.next body) body) e) }
     ensures unchanged { OnErr result (layer.new ≡ layer.old) }
 {
@@ -233,14 +237,14 @@ fn add_dirs_and_move(
     leaves: bool,
     covers: bool,
 ) -> Result<(), FsError>
-    requires way { walk (layer.old ∷ lowers.now) to.now ≡ None }
-    requires movable { IsLayer (with_parents layer.old lowers.now to.now) → IsMovable (with_parents layer.old lowers.now to.now) from.now to.now }
+    requires way { walk_error (layer.old ∷ lowers.now) to.now ≡ None }
+    requires movable { IsPath to.now → IsLayer (with_parents layer.old lowers.now to.now) → IsMovable (with_parents layer.old lowers.now to.now) from.now to.now }
     ensures ok { OnOk result (layer.new ≡ shifted (with_parents layer.old lowers.now to.now) from.now to.now leaves covers) }
+    ensures layer { OnOk result (IsLayer layer.new) }
     ensures error { IfErr result (λ e. IsRefusal (with_parents layer.old lowers.now to.now) e ⊎ IsRefusal (shifted (with_parents layer.old lowers.now to.now) from.now to.now leaves covers) e) }
     ensures unchanged { OnErr result (layer.new ≡ layer.old) }
 {
     let dirs = add_dirs(layer, lowers, to)?;
-    let _ = &layer.is_layer;
     if let Err(error) = relocate(layer, from, to, leaves, covers) {
         take_all(layer, &dirs);
         return Err(error);
@@ -257,12 +261,13 @@ fn relocate(
     leaves: bool,
     covers: bool,
 ) -> Result<(), FsError>
-    requires { IsMovable layer.old from.now to.now }
+    requires movable { IsMovable layer.old from.now to.now }
+    requires layer { IsLayer layer.old }
     ensures ok { OnOk result (layer.new ≡ shifted layer.old from.now to.now leaves covers) }
+    ensures layer { OnOk result (IsLayer layer.new) }
     ensures error { IfErr result (λ e. IsRefusal (shifted layer.old from.now to.now leaves covers) e) }
     ensures unchanged { OnErr result (layer.new ≡ layer.old) }
 {
-    let _ = &layer.is_layer;
     layer.move_tree(from, to, leaves)?;
     if covers && is_dir_there(layer, to) {
         layer.set_opaque(to, true);

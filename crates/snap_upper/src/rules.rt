@@ -1,12 +1,13 @@
 // The rule of each operation: its tests, and the change that it makes where they pass.
 ghost use Rattle.std.specs.Prelude.{◌≡◌, ◌⊎◌, ◌∷◌, ℕ, Some, None, IfOk, IfErr, Err, false, is_some};
 ghost use Rattle.snap_path.specs.Memory.{no_memory};
+ghost use Rattle.snap_layer.specs.Layers.{IsLayer};
 ghost use Rattle.snap_layer.specs.Tree.{at, number_at};
 ghost use Rattle.snap_layer.specs.Contents.{edited, size_of, IsShort};
 ghost use Rattle.snap_layer.specs.declared.content.Content.{Content as ContentValue};
 ghost use Rattle.snap_merge.specs.declared.error.FsError.{FsError};
 ghost use Rattle.snap_merge.specs.Objects.{file, seen, AreLayers};
-ghost use Rattle.snap_merge.specs.Walk.{walk};
+ghost use Rattle.snap_merge.specs.Walk.{walk_error};
 ghost use Rattle.snap_copyup.specs.Copying.{below, copied_up};
 ghost use Rattle.snap_upper.specs.After.{after, limited, with_content, lists_names, error_by_kind};
 ghost use Rattle.snap_upper.specs.Changes.{outcome, IsChange, IsInPlace, IsReady, IsWithMode};
@@ -31,6 +32,7 @@ pub(crate) fn rule<'a>(
     op: &'a Op,
 ) -> Result<Change<'a>, FsError>
     ensures ok { IfOk result (λ c. IsChange c op.now layer.now lowers.now) }
+    ensures layer { IsLayer layer.now }
     ensures error { IfErr result (λ e. (e ≡ FsError.OutOfMemory no_memory) ⊎ (after op.now layer.now lowers.now ≡ Err e)) }
     ensures sure { lists_names op.now (layer.now ∷ lowers.now) ≡ false → IfErr result (λ e. after op.now layer.now lowers.now ≡ Err e) }
 {
@@ -67,10 +69,10 @@ fn mkdir<'a>(
     mode: u32,
 ) -> Result<Change<'a>, FsError>
     ensures ok { IfOk result (λ c. IsChange c (op.Mkdir path.now mode) layer.now lowers.now) }
+    ensures layer { IsLayer layer.now }
     ensures error { IfErr result (λ e. after (op.Mkdir path.now mode) layer.now lowers.now ≡ Err e) }
 {
     check_new(&Stack::over(layer, lowers), path, mode)?;
-    let _ = &layer.is_layer;
     let opaque = is_whiteout(layer.at(path));
     let new = New::Dir { mode, opaque };
     Ok(Change::Put { path, new })
@@ -83,10 +85,10 @@ fn create<'a>(
     mode: u32,
 ) -> Result<Change<'a>, FsError>
     ensures ok { IfOk result (λ c. IsChange c (op.Create path.now mode) layer.now lowers.now) }
+    ensures layer { IsLayer layer.now }
     ensures error { IfErr result (λ e. after (op.Create path.now mode) layer.now lowers.now ≡ Err e) }
 {
     check_new(&Stack::over(layer, lowers), path, mode)?;
-    let _ = &layer.is_layer;
     let new = New::Empty { mode };
     Ok(Change::Put { path, new })
 }
@@ -100,10 +102,10 @@ fn put<'a>(
     digest: &'a Option<Bytes>,
 ) -> Result<Change<'a>, FsError>
     ensures ok { IfOk result (λ c. IsChange c (op.Put path.now mode size digest.now) layer.now lowers.now) }
+    ensures layer { IsLayer layer.now }
     ensures error { IfErr result (λ e. after (op.Put path.now mode size digest.now) layer.now lowers.now ≡ Err e) }
 {
     check_put(&Stack::over(layer, lowers), path, mode, size, digest)?;
-    let _ = &layer.is_layer;
     let digest = digest.as_ref();
     let new = New::Sized { mode, size, digest };
     Ok(Change::Put { path, new })
@@ -116,10 +118,10 @@ fn symlink<'a>(
     target: &'a Bytes,
 ) -> Result<Change<'a>, FsError>
     ensures ok { IfOk result (λ c. IsChange c (op.Symlink path.now target.now) layer.now lowers.now) }
+    ensures layer { IsLayer layer.now }
     ensures error { IfErr result (λ e. after (op.Symlink path.now target.now) layer.now lowers.now ≡ Err e) }
 {
     check_symlink(&Stack::over(layer, lowers), path, target)?;
-    let _ = &layer.is_layer;
     let target = target.as_slice();
     let new = New::Symlink { target };
     Ok(Change::Put { path, new })
@@ -133,10 +135,10 @@ fn write<'a>(
     bytes: &'a Bytes,
 ) -> Result<Change<'a>, FsError>
     ensures ok { IfOk result (λ c. IsChange c (op.Write path.now offset bytes.now) layer.now lowers.now) }
+    ensures layer { IsLayer layer.now }
     ensures error { IfErr result (λ e. after (op.Write path.now offset bytes.now) layer.now lowers.now ≡ Err e) }
 {
     let old = check_write(&Stack::over(layer, lowers), path, offset, bytes)?;
-    let _ = &layer.is_layer;
     let edit = Edit::Write {
         offset: offset as usize,
         bytes: bytes.as_slice(),
@@ -151,10 +153,10 @@ fn truncate<'a>(
     size: u64,
 ) -> Result<Change<'a>, FsError>
     ensures ok { IfOk result (λ c. IsChange c (op.Truncate path.now size) layer.now lowers.now) }
+    ensures layer { IsLayer layer.now }
     ensures error { IfErr result (λ e. after (op.Truncate path.now size) layer.now lowers.now ≡ Err e) }
 {
     let old = check_truncate(&Stack::over(layer, lowers), path, size)?;
-    let _ = &layer.is_layer;
     let edit = Edit::Resize {
         size: size as usize,
     };
@@ -170,8 +172,9 @@ fn editing<'a>(
     size: u64,
     edit: Edit<'a>,
 ) -> Result<Change<'a>, FsError>
+    requires layer { IsLayer layer.now }
     requires layers { AreLayers lowers.now }
-    requires way { walk (layer.now ∷ lowers.now) path.now ≡ None }
+    requires way { walk_error (layer.now ∷ lowers.now) path.now ≡ None }
     requires there { (m : ℕ) × (old : ContentValue) × (seen (layer.now ∷ lowers.now) path.now ≡ Some (file m old)) }
     requires size { (m : ℕ) (old : ContentValue) → seen (layer.now ∷ lowers.now) path.now ≡ Some (file m old) → size ≡ size_of old }
     requires short { (m : ℕ) (old : ContentValue) → seen (layer.now ∷ lowers.now) path.now ≡ Some (file m old) → IsShort edit old }
@@ -179,7 +182,6 @@ fn editing<'a>(
     ensures in_place { IfOk result (λ c. IsNoGrowth layer.now (number_at layer.now path.now) (edited edit.entry) → IsInPlace c layer.now) }
     ensures sure { IfErr result (λ e. ⊥) }
 {
-    let _ = &layer.is_layer;
     if let Some(number) = own_number(layer, path) {
         return Ok(Change::Fill { number, size, edit });
     }
@@ -198,10 +200,10 @@ fn set_mode<'a>(
     mode: u32,
 ) -> Result<Change<'a>, FsError>
     ensures ok { IfOk result (λ c. IsChange c (op.SetMode path.now mode) layer.now lowers.now) }
+    ensures layer { IsLayer layer.now }
     ensures error { IfErr result (λ e. after (op.SetMode path.now mode) layer.now lowers.now ≡ Err e) }
 {
     check_mode(&Stack::over(layer, lowers), path, mode)?;
-    let _ = &layer.is_layer;
     if layer.at(path).is_some() {
         return Ok(Change::SetMode { path, mode });
     }
@@ -242,6 +244,7 @@ fn link<'a>(
     to: &'a Path,
 ) -> Result<Change<'a>, FsError>
     ensures ok { IfOk result (λ c. IsChange c (op.Link from.now to.now) layer.now lowers.now) }
+    ensures layer { IsLayer layer.now }
     ensures error { IfErr result (λ e. after (op.Link from.now to.now) layer.now lowers.now ≡ Err e) }
 {
     check_link(&Stack::over(layer, lowers), from, to)?;
@@ -250,21 +253,21 @@ fn link<'a>(
 
 fn unlink<'a>(layer: &Layer, lowers: &'a [Shared], path: &'a Path) -> Result<Change<'a>, FsError>
     ensures ok { IfOk result (λ c. IsChange c (op.Unlink path.now) layer.now lowers.now) }
+    ensures layer { IsLayer layer.now }
     ensures error { IfErr result (λ e. after (op.Unlink path.now) layer.now lowers.now ≡ Err e) }
 {
     let found = check_unlink(&Stack::over(layer, lowers), path)?;
-    let _ = &layer.is_layer;
     let covers = is_below(layer, lowers, path, found);
     Ok(Change::Erase { path, covers })
 }
 
 fn rmdir<'a>(layer: &Layer, lowers: &'a [Shared], path: &'a Path) -> Result<Change<'a>, FsError>
     ensures ok { IfOk result (λ c. IsChange c (op.Rmdir path.now) layer.now lowers.now) }
+    ensures layer { IsLayer layer.now }
     ensures error { IfErr result (λ e. (e ≡ FsError.OutOfMemory no_memory) ⊎ (after (op.Rmdir path.now) layer.now lowers.now ≡ Err e)) }
     ensures sure { lists_names (op.Rmdir path.now) (layer.now ∷ lowers.now) ≡ false → IfErr result (λ e. after (op.Rmdir path.now) layer.now lowers.now ≡ Err e) }
 {
     let found = check_rmdir(&Stack::over(layer, lowers), layer.alloc(), path)?;
-    let _ = &layer.is_layer;
     let covers = is_below(layer, lowers, path, found);
     Ok(Change::Erase { path, covers })
 }
@@ -276,10 +279,10 @@ fn rename<'a>(
     to: &'a Path,
 ) -> Result<Change<'a>, FsError>
     ensures ok { IfOk result (λ c. IsChange c (op.Rename from.now to.now) layer.now lowers.now) }
+    ensures layer { IsLayer layer.now }
     ensures error { IfErr result (λ e. (e ≡ FsError.OutOfMemory no_memory) ⊎ (after (op.Rename from.now to.now) layer.now lowers.now ≡ Err e)) }
     ensures sure { lists_names (op.Rename from.now to.now) (layer.now ∷ lowers.now) ≡ false → IfErr result (λ e. after (op.Rename from.now to.now) layer.now lowers.now ≡ Err e) }
 {
-    let _ = &layer.is_layer;
     let Some(sides) = check_rename(layer, lowers, from, to)? else {
         return Ok(Change::Nothing);
     };
@@ -293,10 +296,10 @@ fn rename<'a>(
 
 fn opaque<'a>(layer: &Layer, lowers: &'a [Shared], path: &'a Path) -> Result<Change<'a>, FsError>
     ensures ok { IfOk result (λ c. IsChange c (op.Opaque path.now) layer.now lowers.now) }
+    ensures layer { IsLayer layer.now }
     ensures error { IfErr result (λ e. after (op.Opaque path.now) layer.now lowers.now ≡ Err e) }
 {
     let mode = check_opaque(&Stack::over(layer, lowers), path)?;
-    let _ = &layer.is_layer;
     if layer.at(path).is_some() {
         return Ok(Change::SetOpaque { path });
     }
@@ -307,10 +310,10 @@ fn opaque<'a>(layer: &Layer, lowers: &'a [Shared], path: &'a Path) -> Result<Cha
 
 fn whiteout<'a>(layer: &Layer, lowers: &'a [Shared], path: &'a Path) -> Result<Change<'a>, FsError>
     ensures ok { IfOk result (λ c. IsChange c (op.Whiteout path.now) layer.now lowers.now) }
+    ensures layer { IsLayer layer.now }
     ensures error { IfErr result (λ e. after (op.Whiteout path.now) layer.now lowers.now ≡ Err e) }
 {
     let found = check_whiteout(&Stack::over(layer, lowers), path)?;
-    let _ = &layer.is_layer;
     let covers = is_below(layer, lowers, path, found);
     if is_dir_there(layer, path) {
         return Ok(Change::EraseTree { path, covers });

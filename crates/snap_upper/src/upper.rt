@@ -1,6 +1,7 @@
 // The upper layer, on which an operation is done.
 ghost use Rattle.std.specs.Prelude.{◌≡◌, ◌⊎◌, ◌∷◌, OnOk, OnErr, IfErr, Ok, Err, false, ℕ, List, Some, None, [], ◌++◌, is_some, true, IsSome};
 ghost use Rattle.snap_path.specs.Memory.{no_memory};
+ghost use Rattle.snap_layer.specs.Layers.{IsLayer};
 ghost use Rattle.snap_layer.specs.Tree.{at, body};
 ghost use Rattle.snap_layer.specs.Edits.{IsFree, IsInnerDir};
 ghost use Rattle.snap_layer.specs.declared.node.Body.TheVariants as body_kinds;
@@ -9,7 +10,7 @@ ghost use Rattle.snap_layer.specs.declared.content.Content.{Content as ContentVa
 ghost use Rattle.snap_usage.specs.Counted.{count_of, Covers};
 ghost use Rattle.snap_merge.specs.declared.error.FsError.{FsError};
 ghost use Rattle.snap_merge.specs.Objects.{seen, AreLayers};
-ghost use Rattle.snap_merge.specs.Walk.{walk};
+ghost use Rattle.snap_merge.specs.Walk.{walk_error};
 ghost use Rattle.snap_copyup.specs.Copying.{below, with_parents};
 ghost use Rattle.snap_copyup.specs.Places.{with_last, CanStand};
 ghost use Rattle.snap_upper.specs.After.{after, lists_names, within_share, limited, with_content, erased, tree_erased};
@@ -82,7 +83,6 @@ pub fn apply(layer: &mut Layer, lowers: &[Shared], op: &Op) -> Result<(), FsErro
     ensures view { OnOk result (changed op.now layer.old (seen (layer.old ∷ lowers.now)) (seen (layer.new ∷ lowers.now))) }
     ensures law { Changes op.now layer.old }
 {
-    let _ = &layer.is_layer;
     let change = rule(layer, lowers, op)?;
     perform(layer, lowers, change)
 }
@@ -120,25 +120,23 @@ pub fn apply_within(
 /// Does the change to the layer.
 fn perform(layer: &mut Layer, lowers: &[Shared], change: Change<'_>) -> Result<(), FsError>
     requires layers { AreLayers lowers.now }
+    requires layer { IsLayer layer.old }
     requires ready { IsReady change layer.old lowers.now }
     ensures ok { OnOk result (outcome change.entry layer.old lowers.now ≡ Ok layer.new) }
     ensures error { IfErr result (λ e. (e ≡ FsError.OutOfMemory no_memory) ⊎ (outcome change.entry layer.old lowers.now ≡ Err e)) }
     ensures sure { IsInPlace change.entry layer.old → IfErr result (λ e. outcome change.entry layer.old lowers.now ≡ Err e) }
     ensures unchanged { OnErr result (layer.new ≡ layer.old) }
 {
-    let _ = &layer.is_layer;
     match change {
         Change::Nothing => Ok(()),
         Change::Put { path, new } => put_new(layer, lowers, path, new),
         Change::Fill { number, edit, .. } => fill(layer, number, edit),
         Change::SetMode { path, mode } => {
             layer.set_mode(path, mode);
-            let _ = &layer.is_layer;
             Ok(())
         }
         Change::SetOpaque { path } => {
             layer.set_opaque(path, true);
-            let _ = &layer.is_layer;
             Ok(())
         }
         Change::Erase { path, covers } => erase(layer, lowers, path, covers),
@@ -155,7 +153,7 @@ fn perform(layer: &mut Layer, lowers: &[Shared], change: Change<'_>) -> Result<(
 
 /// Puts it at the path, with the directories that are missing above it.
 fn grow(layer: &mut Layer, lowers: &[Shared], path: &Path, last: Last) -> Result<(), FsError>
-    requires way { walk (layer.old ∷ lowers.now) path.now ≡ None }
+    requires way { walk_error (layer.old ∷ lowers.now) path.now ≡ None }
     requires fit { CanStand last layer.old path.now }
     ensures ok { OnOk result (limited (with_last last (with_parents layer.old lowers.now path.now) path.now) ≡ Ok layer.new) }
     ensures error { IfErr result (λ e. (e ≡ FsError.OutOfMemory no_memory) ⊎ (limited (with_last last (with_parents layer.old lowers.now path.now) path.now) ≡ Err e)) }
@@ -164,13 +162,12 @@ fn grow(layer: &mut Layer, lowers: &[Shared], path: &Path, last: Last) -> Result
     if let Err(error) = put(layer, lowers, path, last) {
         return Err(error);
     }
-    let _ = &layer.is_layer;
     Ok(())
 }
 
 /// Makes it with its own content, and puts it at the path, with the directories that are missing above it.
 fn put_new(layer: &mut Layer, lowers: &[Shared], path: &Path, new: New<'_>) -> Result<(), FsError>
-    requires way { walk (layer.old ∷ lowers.now) path.now ≡ None }
+    requires way { walk_error (layer.old ∷ lowers.now) path.now ≡ None }
     requires fit { CanStand (as_last new) layer.old path.now }
     requires sound { IsSound new }
     ensures ok { OnOk result (limited (with_last (as_last new.entry) (with_parents layer.old lowers.now path.now) path.now) ≡ Ok layer.new) }
@@ -190,14 +187,13 @@ fn fill(layer: &mut Layer, number: u32, edit: Edit<'_>) -> Result<(), FsError>
     ensures unchanged { OnErr result (layer.new ≡ layer.old) }
 {
     layer.edit_content(number, edit)?;
-    let _ = &layer.is_layer;
     Ok(())
 }
 
 /// Takes what the layer has at the path, a name or a directory with whiteouts alone, and puts a whiteout
 /// there where `covers` says that a lower layer shows something.
 fn erase(layer: &mut Layer, lowers: &[Shared], path: &Path, covers: bool) -> Result<(), FsError>
-    requires way { walk (layer.old ∷ lowers.now) path.now ≡ None }
+    requires way { walk_error (layer.old ∷ lowers.now) path.now ≡ None }
     requires there { is_some (seen (layer.old ∷ lowers.now) path.now) ≡ true }
     requires below_root { path.now ≡ [] → ⊥ }
     requires clear { (n : List ℕ) → IsFree (at layer.old (path.now ++ n ∷ [])) }
@@ -207,7 +203,6 @@ fn erase(layer: &mut Layer, lowers: &[Shared], path: &Path, covers: bool) -> Res
     ensures sure { IsSome (at layer.old path.now) → IfErr result (λ e. limited (erased layer.old lowers.now path.now) ≡ Err e) }
     ensures unchanged { OnErr result (layer.new ≡ layer.old) }
 {
-    let _ = &layer.is_layer;
     if layer.at(path).is_none() {
         return grow(layer, lowers, path, Last::Whiteout);
     }
@@ -215,11 +210,9 @@ fn erase(layer: &mut Layer, lowers: &[Shared], path: &Path, covers: bool) -> Res
         if let Err(error) = layer.add_whiteout(path) {
             return Err(FsError::from(error));
         }
-        let _ = &layer.is_layer;
         return Ok(());
     }
     layer.take_name(path);
-    let _ = &layer.is_layer;
     Ok(())
 }
 
@@ -232,13 +225,12 @@ fn erase_tree(
     covers: bool,
 ) -> Result<(), FsError>
     requires there { IsInnerDir layer.old path.now }
+    requires layer { IsLayer layer.old }
     requires covers { covers ≡ is_some (below layer.old lowers.now path.now) }
     ensures ok { OnOk result (limited (tree_erased layer.old lowers.now path.now) ≡ Ok layer.new) }
     ensures error { IfErr result (λ e. e ≡ FsError.OutOfMemory no_memory) }
     ensures unchanged { OnErr result (layer.new ≡ layer.old) }
 {
-    let _ = &layer.is_layer;
     layer.take_tree(path, covers)?;
-    let _ = &layer.is_layer;
     Ok(())
 }

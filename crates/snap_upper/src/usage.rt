@@ -2,14 +2,16 @@
 ghost use Rattle.std.specs.Prelude.{◌≡◌, [], ◌∷◌, ◌++◌, ◌+◌, ◌≤◌, ℕ, List, None, Some, Ok, is_some, true, false};
 ghost use Rattle.std.specs.Option.{option_map};
 ghost use Rattle.snap_path.specs.Limits.{most_mode};
+ghost use Rattle.snap_path.specs.Text.{IsPath};
+ghost use Rattle.snap_layer.specs.Layers.{IsLayer};
 ghost use Rattle.snap_layer.specs.Tree.{Tree, at, body, IsDirAt};
-ghost use Rattle.snap_layer.specs.Counts.{block_count, inode_count, most_inodes};
+ghost use Rattle.snap_layer.specs.Counts.{block_count, inode_count, most_inodes, most_file_blocks};
 ghost use Rattle.snap_layer.specs.Edits.{IsFree, IsInnerDir, HasMode, with_mode, with_opaque, without};
 ghost use Rattle.snap_layer.specs.declared.node.Body.TheVariants as body_kinds;
 ghost use Rattle.snap_layer.specs.Contents.{edited, size_of, IsContent, IsShort};
 ghost use Rattle.snap_layer.specs.declared.content.Content.{Content as ContentValue};
 ghost use Rattle.snap_merge.specs.Objects.{object, seen, AreLayers};
-ghost use Rattle.snap_merge.specs.Walk.{walk, Answers};
+ghost use Rattle.snap_merge.specs.Walk.{walk_error, Answers};
 ghost use Rattle.snap_copyup.specs.declared.parents.Last.{Last};
 ghost use Rattle.snap_copyup.specs.Copying.{below, with_parents};
 ghost use Rattle.snap_copyup.specs.Places.{with_last, CanStand};
@@ -58,10 +60,10 @@ pub(crate) fn weigh(
     change: Change<'_>,
 ) -> Result<Planned, FsError>
     requires layers { AreLayers lowers.now }
+    requires layer { IsLayer layer.now }
     requires ready { IsReady change layer.now lowers.now }
     ensures { result ≡ planned (outcome change.entry layer.now lowers.now) }
 {
-    let _ = &layer.is_layer;
     match change {
         Change::Nothing => Ok(counted(layer)),
         Change::Put { path, new } => plan_growth(layer, path, new.blocks(), new.is_numbered()),
@@ -84,7 +86,6 @@ pub(crate) fn weigh(
 fn counted(layer: &Layer) -> Planned
     ensures { Ok result ≡ planned (Ok layer.now) }
 {
-    let _ = &layer.is_layer;
     let after = count(layer);
     Planned { after }
 }
@@ -95,7 +96,6 @@ fn counted_with_mode(layer: &Layer, path: &Path, mode: u32) -> Planned
     requires low { mode ≤ most_mode }
     ensures { Ok result ≡ planned (limited (with_mode layer.now path.now (at layer.now path.now) mode)) }
 {
-    let _ = &layer.is_layer;
     let after = count(layer);
     Planned { after }
 }
@@ -105,7 +105,6 @@ fn counted_opaque(layer: &Layer, path: &Path) -> Planned
     requires { IsDirAt (at layer.now path.now) }
     ensures { Ok result ≡ planned (limited (with_opaque layer.now path.now (at layer.now path.now) true)) }
 {
-    let _ = &layer.is_layer;
     let after = count(layer);
     Planned { after }
 }
@@ -113,10 +112,10 @@ fn counted_opaque(layer: &Layer, path: &Path) -> Planned
 /// What the layer takes without its directory at the path and all that is in it. A whiteout is put there where `covers`
 /// says that a lower layer shows something.
 fn counted_without(layer: &Layer, path: &Path, covers: bool) -> Planned
-    requires { IsInnerDir layer.now path.now }
+    requires dir { IsInnerDir layer.now path.now }
+    requires layer { IsLayer layer.now }
     ensures { (lowers : List Tree) → covers ≡ is_some (below layer.now lowers path.now) → Ok result ≡ planned (limited (tree_erased layer.now lowers path.now)) }
 {
-    let _ = &layer.is_layer;
     let (inodes, blocks) = layer.left_without_tree(path);
     let inodes = inodes as u64 + u64::from(covers);
     let after = Usage { blocks, inodes };
@@ -126,12 +125,10 @@ fn counted_without(layer: &Layer, path: &Path, covers: bool) -> Planned
 /// How much the layer takes where what is seen at `from` gets the name `to`.
 fn plan_link(layer: &Layer, lowers: &[Shared], from: &Path, to: &Path) -> Result<Planned, FsError>
     requires layers { AreLayers lowers.now }
+    requires layer { IsLayer layer.now }
     requires passes { first_error (tests (op.Link from.now to.now) (layer.now ∷ lowers.now)) ≡ None }
     ensures { result ≡ planned (limited (next_layer (op.Link from.now to.now) layer.now lowers.now)) }
 {
-    let _ = from.names();
-    let _ = to.names();
-    let _ = &layer.is_layer;
     let after = count_placed(layer, lowers, from, to);
     fitting(layer, after, layer.at(from).is_none())
 }
@@ -143,10 +140,9 @@ fn count_placed(layer: &Layer, lowers: &[Shared], from: &Path, to: &Path) -> Usa
     requires placeable { IsPlaceable layer.now lowers.now from.now to.now }
     ensures count { result ≡ record { blocks = block_count (without (before_move layer.now lowers.now from.now to.now) to.now); inodes = inode_count (without (before_move layer.now lowers.now from.now to.now) to.now) } }
     ensures few { result.inodes ≤ most_inodes + 10000 }
+    ensures source { IsPath from.now }
+    ensures target { IsPath to.now }
 {
-    let _ = from.names();
-    let _ = to.names();
-    let _ = &layer.is_layer;
     let left = count_without(layer, to);
     if layer.at(from).is_some() {
         let missing = missing_dirs(layer, to) as u64;
@@ -179,10 +175,8 @@ fn seen_blocks(seen: Option<Seen<'_>>) -> u64
 fn plan_erasing(layer: &Layer, path: &Path, covers: bool) -> Result<Planned, FsError>
     requires below_root { path.now ≡ [] → ⊥ }
     requires clear { (n : List ℕ) → IsFree (at layer.now (path.now ++ n ∷ [])) }
-    ensures { (lowers : List Tree) → AreLayers lowers → walk (layer.now ∷ lowers) path.now ≡ None → is_some (seen (layer.now ∷ lowers) path.now) ≡ true → covers ≡ is_some (below layer.now lowers path.now) → result ≡ planned (limited (erased layer.now lowers path.now)) }
+    ensures { (lowers : List Tree) → AreLayers lowers → walk_error (layer.now ∷ lowers) path.now ≡ None → is_some (seen (layer.now ∷ lowers) path.now) ≡ true → covers ≡ is_some (below layer.now lowers path.now) → result ≡ planned (limited (erased layer.now lowers path.now)) }
 {
-    let _ = path.names();
-    let _ = &layer.is_layer;
     if layer.at(path).is_none() {
         return plan_growth(layer, path, 0, false);
     }
@@ -204,14 +198,12 @@ fn plan_move(
     leaves: bool,
 ) -> Result<Planned, FsError>
     requires layers { AreLayers lowers.now }
+    requires layer { IsLayer layer.now }
     requires passes { first_error (tests (op.Rename from.now to.now) (layer.now ∷ lowers.now)) ≡ None }
     requires moves { is_same_name layer.now from.now to.now ≡ false }
     requires leaves { leaves ≡ is_some (below layer.now lowers.now from.now) }
     ensures { result ≡ planned (limited (renamed layer.now lowers.now from.now to.now)) }
 {
-    let _ = from.names();
-    let _ = to.names();
-    let _ = &layer.is_layer;
     let left = count_placed(layer, lowers, from, to);
     let after = Usage {
         blocks: left.blocks,
@@ -226,6 +218,7 @@ fn count_without(layer: &Layer, path: &Path) -> Usage
     ensures count { result ≡ record { blocks = block_count (without layer.now path.now); inodes = inode_count (without layer.now path.now) } }
     ensures few { result.inodes ≤ most_inodes }
     ensures fewer { result.blocks ≤ block_count layer.now }
+    ensures path { IsPath path.now }
 {
     Usage {
         blocks: layer.blocks() - freed_blocks(layer, path),
@@ -239,7 +232,6 @@ fn freed_blocks(layer: &Layer, path: &Path) -> u64
     requires { (n : List ℕ) → IsFree (at layer.now (path.now ++ n ∷ [])) }
     ensures { block_count layer.now ≡ block_count (without layer.now path.now) + result }
 {
-    let _ = &layer.is_layer;
     match layer.at(path) {
         Some(Node::Dir { .. }) => 1,
         Some(Node::File { number }) => last_blocks(layer, number),
@@ -272,12 +264,10 @@ fn file_blocks(layer: &Layer, number: u32) -> u64
 /// How much the layer takes where what takes so many blocks, and a file number where `numbered` says so,
 /// is put at the path, and the directories that are missing above it.
 fn plan_growth(layer: &Layer, path: &Path, blocks: u64, numbered: bool) -> Result<Planned, FsError>
-    requires few { blocks ≤ 268435456 }
+    requires few { blocks ≤ most_file_blocks }
     requires free { IsFree (at layer.now path.now) }
-    ensures { (last : Last) (lowers : List Tree) → Takes last blocks numbered → AreLayers lowers → walk (layer.now ∷ lowers) path.now ≡ None → CanStand last layer.now path.now → result ≡ planned (limited (with_last last (with_parents layer.now lowers path.now) path.now)) }
+    ensures { (last : Last) (lowers : List Tree) → Takes last blocks numbered → AreLayers lowers → walk_error (layer.now ∷ lowers) path.now ≡ None → CanStand last layer.now path.now → result ≡ planned (limited (with_last last (with_parents layer.now lowers path.now) path.now)) }
 {
-    let _ = path.names();
-    let _ = &layer.is_layer;
     let now = count(layer);
     let missing = missing_dirs(layer, path) as u64;
     let whiteouts = u64::from(is_whiteout(layer.at(path)));
@@ -308,7 +298,6 @@ fn plan_filling(layer: &Layer, number: u32, size: u64, edit: Edit<'_>) -> Result
     requires there { (m : ℕ) × (old : ContentValue) × (body layer.now number ≡ Some (body_kinds.File m old)) × (size ≡ size_of old) × IsShort edit old × IsContent (edited edit old) }
     ensures { result ≡ planned (limited (with_content layer.now (Some number) (edited edit.entry))) }
 {
-    let _ = &layer.is_layer;
     let now = count(layer);
     let new = blocks_of(edit.size(size));
     let old = blocks_of(size);

@@ -1,5 +1,4 @@
 -- What a layer takes, counted over its paths.
--- Cited by `Usage::covers`, `Usage as Display`, `difference` and others.
 use Rattle.std.specs.Prelude.{ℕ, ◌+◌, ◌≤◌, ◌==◌, if◌then◌else◌, Bool, nat_le, ◌&&◌, List, [], ◌∷◌, ◌++◌, length, codes}
 use Rattle.std.specs.Fmt.{decimal}
 use Rattle.std.specs.List.{list_any, filter_map, sum_by}

@@ -1,6 +1,7 @@
 ghost use Rattle.std.specs.Prelude.{◌≡◌, ◌↔◌, ◌+◌, ◌-◌, ◌<◌, ◌^◌, Some, IsTrue};
 ghost use Rattle.std.specs.Fmt.{padded};
 ghost use Rattle.std.specs.Option.{option_map_or};
+ghost use Rattle.snap_layer.specs.Layers.{IsLayer};
 ghost use Rattle.snap_layer.specs.Tree.{body};
 ghost use Rattle.snap_layer.specs.Counts as layer_counts;
 ghost use Rattle.snap_layer.specs.Counts.{block_count, body_blocks, inode_count};
@@ -79,8 +80,8 @@ pub fn count(layer: &Layer) -> Usage
     ensures count { result ≡ count_of layer.now }
     // The distinct file numbers of the paths are the numbers of the layer's bodies.
     ensures bodies { result ≡ record { blocks = block_count layer.now; inodes = inode_count layer.now } }
+    ensures layer { IsLayer layer.now }
 {
-    let _ = &layer.is_layer;
     Usage {
         blocks: layer.blocks(),
         inodes: layer.inodes() as u64,
@@ -95,7 +96,6 @@ pub fn count(layer: &Layer) -> Usage
 pub fn recount(layer: &Layer) -> Usage
     ensures { result ≡ count_of layer.now }
 {
-    let _ = &layer.is_layer;
     let (directories, whiteouts) = layer.tally();
     let mut usage = Usage {
         blocks: directories as u64,

@@ -1,5 +1,4 @@
 -- What clauses see of a snapshot in the world's hands.
--- Cited by invariants and private clauses alone.
 use Rattle.std.specs.Prelude.{true, false}
 use Rattle.snap_book.specs.declared.active.Held.{Held}
 use Rattle.snap_book.specs.declared.active.Held.TheVariants.{Active, Sealed}

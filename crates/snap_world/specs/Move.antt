@@ -1,5 +1,4 @@
 -- What one step answers, and the world after it. The cases of each call stand in the order in which they are tested.
--- Cited by `World::call`, `World::operate`, `World::run` and others.
 use Rattle.std.specs.Prelude.{ℕ, ◌+◌, ◌==◌, Bool, true, false, not, ◌&&◌, nat_lt, if◌then◌else◌, List, [], ◌∷◌, ◌++◌, length, Option, None, Some, Ok, Err}
 use Rattle.std.specs.Option.{option_map, option_map_or}
 use Rattle.snap_usage.specs.declared.usage.Usage.{Usage}

@@ -1,5 +1,4 @@
 -- What a namespace may take and what it takes, as quota tools tell it.
--- Cited by `World::quota`, `replay_within`, `replay` and others.
 use Rattle.std.specs.Prelude.{ℕ, List, Option, option_map, unwrap_or}
 use Rattle.snap_usage.specs.declared.usage.Usage.{Usage}
 use Rattle.snap_usage.specs.Counted.{count_of, no_usage}

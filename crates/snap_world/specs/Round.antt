@@ -1,5 +1,4 @@
 -- The next round of a world.
--- Cited by `World::reopen`, `World::roll`, `replay_within` and others.
 use Rattle.std.specs.Prelude.{ℕ, nat_lt, if◌then◌else◌, [], Result, Ok, Err}
 use Rattle.snap_call.specs.declared.refusal.Refusal.{Refusal}
 use Rattle.snap_call.specs.Records.{open_count}

@@ -1,5 +1,4 @@
 -- Lists of steps.
--- Cited by `World::call`, `World::operate`, `World::run`.
 use Rattle.std.specs.Prelude.{◌≡◌, ◌⊎◌, ℕ, true, false, List, [], ◌∷◌, Option, None, Some, Err, IfErr}
 use Rattle.std.specs.Option.{option_map}
 use Rattle.snap_path.specs.Memory.{no_memory}

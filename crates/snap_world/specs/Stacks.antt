@@ -1,5 +1,4 @@
 -- What the snapshots of a world show: the layers of an active one, its own over those of its ancestors, and those of a view.
--- Cited by `World::call`, `World::operate`, `World::run` and others.
 use Rattle.std.specs.Prelude.{◌≡◌, ℕ, List, ◌∷◌, Option, None, Some, Result, Ok, Err, ok_or, option_and_then, option_map}
 use Rattle.std.specs.Result.{result_ok}
 use Rattle.snap_layer.specs.Tree.{Tree}

@@ -1,5 +1,4 @@
 -- Sums over the hands, slot by slot.
--- Cited by invariants and private clauses alone.
 use Rattle.std.specs.Prelude.{ℕ, zero, suc, ◌==◌, List, Option, None, Some, if◌then◌else◌}
 use Rattle.snap_usage.specs.declared.usage.Usage.{Usage}
 use Rattle.snap_usage.specs.Counted.{count_of, no_usage}

@@ -1,5 +1,4 @@
 -- A store and the hands of its writers.
--- Cited by `World::reopen`, `World::call`, `World::operate` and others.
 use Rattle.std.specs.Prelude.{◌≡◌, ℕ, Bool, List, length, Option, None, Some, slice_index_or, slice_set}
 use Rattle.snap_usage.specs.Counted.{Covers, count_of}
 use Rattle.snap_record.specs.Records.{usage_of}

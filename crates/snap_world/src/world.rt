@@ -20,7 +20,7 @@ ghost use Rattle.snap_world.specs.Stacks.{IsOver, stack_of};
 use crate::hands::Hands;
 use crate::step::{Answer, Step};
 use snap_book::Book;
-use snap_call::{Call, Config, Records, Refusal, SharedEntry};
+use snap_call::{Call, Config, Records, Refusal, SharedEntry, State};
 use snap_history::Shares;
 use snap_lease::Leases;
 use snap_ledger::{NewTable, StoreName};
@@ -212,6 +212,14 @@ impl<N: StoreName> World<N> {
         ensures { result ≡ open_count self.now.state.records }
     {
         self.book.open_slots()
+    }
+
+    /// The state: the namespaces with their limits, the records, and the leases. Takes no memory. The cost
+    /// is constant.
+    pub fn state(&self) -> &State
+        ensures { result.now ≡ self.now.state }
+    {
+        self.book.state()
     }
 
     /// The records of all snapshots, in order of their namespaces' places and the bytes of their keys.

@@ -1,14 +1,14 @@
 -- What calls leave on a worker's tape, one after another.
-use Rattle.std.specs.Prelude.{◌-◌, Any, IfOk, IfErr, get_or, slice_get, take}
-use Rattle.std.specs.List.{AllByRecursion, AllZip}
-use Rattle.std.proofs.Common.{◌≡◌, ℕ, ◌+◌, ◌<◌, List, [], ◌∷◌, ◌++◌, length, Option, None, Some, Result, Ok, Err, refl, sym, ap, ◌∙◌, subst, arith, add-one, append-nil, length-append}
+use Rattle.std.specs.Prelude.{◌-◌, IfOk, IfErr, get_or, slice_get, take}
+use Rattle.std.specs.List.{AllByRecursion}
+use Rattle.std.proofs.Common.{◌≡◌, ◌⊎◌, inl, inr, ℕ, ◌+◌, ◌<◌, List, [], ◌∷◌, ◌++◌, length, Option, None, Some, Result, Ok, Err, refl, sym, ap, ◌∙◌, subst, arith, add-one, append-nil}
 use Rattle.std.proofs.Math.Seq.{take-suc}
-use Rattle.std.proofs.lemmas.List.{append_assoc, get_or_append_left, get_or-append-add}
+use Rattle.std.proofs.lemmas.List.{append_assoc}
 use Rattle.std.proofs.lemmas.Option.{slice_get-get_or}
+use Rattle.snap_path.specs.Memory.{no_memory}
 use Rattle.snap_layer.specs.Tree.{Tree}
 use Rattle.snap_usage.specs.Counted.{count_of}
 use Rattle.snap_usage.specs.declared.usage.Usage.{Usage}
-use Rattle.snap_merge.specs.declared.error.FsError.{FsError}
 use Rattle.snap_record.specs.Labels.{Bytes, Label}
 use Rattle.snap_upper.specs.declared.op.Op.{Op}
 use Rattle.snap_upper.specs.After.{Outcome, after}
@@ -22,169 +22,106 @@ use Rattle.snap_call.specs.declared.refusal.Refusal.TheVariants.{JournalFull, Ou
 use Rattle.snap_call.specs.declared.reply.Reply.{Reply}
 use Rattle.snap_call.specs.declared.reply.Reply.TheVariants as replies
 use Rattle.snap_call.specs.Journal.{call_entry}
-use Rattle.snap_book.specs.Active.{ActiveValue}
-use Rattle.snap_book.specs.Wanted.{needed_by, wanted_charge}
+use Rattle.snap_call.specs.State.{ancestors, ids_of}
+use Rattle.snap_book.specs.Active.{ActiveValue, fresh}
 use Rattle.snap_tape.specs.Tapes.{RefusedOn, SessionValue, Taped, Untaped}
 use Rattle.snap_store.specs.Values.{IsPrepared}
-use Rattle.snap_writers.specs.Run.{Follows, HasCharged, HasFailed, HasRun, IsSameSnapshot}
+use Rattle.snap_writers.specs.Run.{IsSameSnapshot}
 use Rattle.snap_writers.specs.declared.running.RunError.{RunError}
 use Rattle.snap_writers.specs.declared.running.RunError.TheVariants.{File, Book}
-use Rattle.snap_writers.specs.declared.job.End.TheVariants as ends
-use Rattle.snap_writers.specs.declared.job.Ended.{Ended}
-use Rattle.snap_writers.specs.declared.job.Ended.TheVariants as ended
 use Rattle.snap_writers.specs.declared.job.Job.{Job}
-use Rattle.snap_writers.specs.Jobs.{Done, Granted, IsCommitOf, IsEndOf, IsErrorOf, IsFailed, IsPrepareOf, IsUndone, IsWorkFor, all_after, commit_of, commits, then_after, with_end}
-use Rattle.snap_writers.specs.declared.worker.Stop.{Stop}
-use Rattle.snap_writers.specs.declared.worker.Stop.TheVariants.{Failed}
-use Rattle.snap_writers.specs.Going.{GoesOn, HasRunJob, IsFresh, IsReadyToEnd, IsStopOf, commit_granted}
-
--- ---- lists
-
-pub any_left : {A : Type 0} (P : A → Type 0) (xs ys : List A) → Any P xs → Any P (xs ++ ys)
-any_left P xs ys h = (h.0, h.1, omega (arith, h.2, length-append xs ys), get_or_append_left xs ys h.1 h.0 h.2 ∙ h.3, h.4)
-
-pub any_right : {A : Type 0} (P : A → Type 0) (xs ys : List A) → Any P ys → Any P (xs ++ ys)
-any_right P xs ys h = (length xs + h.0, h.1, omega (arith, h.2, length-append xs ys), get_or-append-add xs ys h.0 h.1 ∙ h.3, h.4)
-
-pub any_last : {A : Type 0} (P : A → Type 0) (xs : List A) (x : A) → P x → Any P (xs ++ x ∷ [])
-any_last P xs x h = any_right P xs (x ∷ []) (0, x, omega arith, refl, h)
+use Rattle.snap_writers.specs.Jobs.{IsCharge, IsErrorOf, IsUndone, all_after, charge_call, discard_entry, prepare_call, prepared_entry, refused_entry, then_after}
+use Rattle.snap_writers.specs.Going.{HasOperated, HasTried, IsWithinOrCharged, IsFresh, Went}
 
 pub all_append : {A : Type 0} (P : A → Type 0) (xs ys : List A) → AllByRecursion P xs → AllByRecursion P ys → AllByRecursion P (xs ++ ys)
 all_append P [] ys p q = q
 all_append P (x ∷ xs) ys p q = (p.0, all_append P xs ys p.1 q)
 
-pub zip_append : {A B : Type 0} (R : A → B → Type 0) (xs xs' : List A) (ys ys' : List B) → AllZip R xs ys → AllZip R xs' ys' → AllZip R (xs ++ xs') (ys ++ ys')
-zip_append R [] xs' [] ys' p q = q
-zip_append R [] xs' (y ∷ ys) ys' p q = absurd p
-zip_append R (x ∷ xs) xs' [] ys' p q = absurd p
-zip_append R (x ∷ xs) xs' (y ∷ ys) ys' p q = (p.0, zip_append R xs xs' ys ys' p.1 q)
+-- ---- entries
 
-pub zip_weaker : {A B : Type 0} (R S : A → B → Type 0) → ((x : A) (y : B) → R x y → S x y) → (xs : List A) (ys : List B) → AllZip R xs ys → AllZip S xs ys
-zip_weaker R S f [] [] p = tt
-zip_weaker R S f [] (y ∷ ys) p = absurd p
-zip_weaker R S f (x ∷ xs) [] p = absurd p
-zip_weaker R S f (x ∷ xs) (y ∷ ys) p = (f x y p.0, zip_weaker R S f xs ys p.1)
+pub untaped : (old new : SessionValue) → Untaped old new → Went old new []
+untaped old new same = record { number = same.number; tape = same.tape ∙ sym (append-nil old.tape) }
 
-pub all_map : {A : Type 0} (P Q : A → Type 0) → ((x : A) → P x → Q x) → (xs : List A) → AllByRecursion P xs → AllByRecursion Q xs
-all_map P Q f [] all = tt
-all_map P Q f (x ∷ xs) all = (f x all.0, all_map P Q f xs all.1)
+pub taped : (old new : SessionValue) (call : Call) (given : Given) (reply : Reply) → Taped old new call given reply → Went old new (call_entry old.number call given reply ∷ [])
+taped old new call given reply t = record { number = t.number; tape = t.tape }
 
--- ---- granted Commits
+pub refused : (old new : SessionValue) (call : Call) (given : Given) (why : Refusal) → RefusedOn old new call given why → Went old new (refused_entry old.number call given why)
+refused old new call given JournalFull by = untaped old new by
+refused old new call given (OutOfMemory want) by = untaped old new by
+refused old new call given why by = taped old new call given (replies.Refused why) by
 
-commit_of_append : (call : Call) (given : Given) (reply : Reply) (a b : List Granted) → commit_of call given reply (a ++ b) ≡ commit_of call given reply a ++ b
-commit_of_append (calls.Commit slot id name lease labels) (Layer layer) (replies.Committed at usage) a b = refl
-commit_of_append call given reply a b = refl
+pub stays : (old new : SessionValue) → new ≡ old → Went old new []
+stays old new same = subst (λ (s : SessionValue). Went old s []) (sym same) (record { number = refl; tape = sym (append-nil old.tape) })
 
-pub commits_append : (xs ys : List Entry) → commits (xs ++ ys) ≡ commits xs ++ commits ys
-commits_append [] ys = refl
-commits_append (x ∷ xs) ys = ap (commit_of x.call x.given x.reply) (commits_append xs ys) ∙ commit_of_append x.call x.given x.reply (commits xs) (commits ys)
+pub then_on : (old mid new : SessionValue) (p q : List Entry) → Went old mid p → Went mid new q → Went old new (p ++ q)
+then_on old mid new p q a b = record { number = b.number ∙ a.number; tape = b.tape ∙ (ap (λ (l : List Entry). l ++ q) a.tape ∙ append_assoc old.tape p q) }
 
-commit_of_refused : (call : Call) (given : Given) (why : Refusal) → commit_of call given (replies.Refused why) [] ≡ []
-commit_of_refused (calls.Commit slot id name lease labels) (Layer layer) why = refl
-commit_of_refused call given why = refl
+-- entries that name the session's number, which stays
+pub then_so : (old mid new : SessionValue) (p : List Entry) (q : ℕ → List Entry) → Went old mid p → Went mid new (q mid.number) → Went old new (p ++ q old.number)
+then_so old mid new p q a b = then_on old mid new p (q old.number) a (subst (λ n. Went mid new (q n)) a.number b)
 
--- a granted Commit of a tape is one of the tape with more behind it
-pub more_tape : {inodes : ℕ} → (tape more : List Entry) (d : Done) (g : Granted) → IsCommitOf inodes tape d g → IsCommitOf inodes (tape ++ more) d g
-more_tape tape more d g is = record { end = is.end; id = is.id; prepared = any_left _ tape more is.prepared; made = is.made; usage = is.usage; count = is.count }
+-- once room was made on the tape
+pub from_untaped : (old mid new : SessionValue) (q : ℕ → List Entry) → Untaped old mid → Went mid new (q mid.number) → Went old new (q old.number)
+from_untaped old mid new q same b = then_so old mid new [] q (untaped old mid same) b
 
--- ---- calls for a job
+-- ---- a prepare
 
-module _ (j : Job) where
-  pub untaped : (old new : SessionValue) → Untaped old new → GoesOn j old new []
-  untaped old new same = record { number = same.number; more = []; tape = same.tape ∙ sym (append-nil old.tape); calls = tt; commits = refl }
+prepare_is : (j : Job) (namespace key parent : Bytes) (labels : List Label) → namespace ≡ j.namespace → key ≡ j.key → parent ≡ j.parent → labels ≡ [] → calls.Prepare namespace key parent labels ≡ prepare_call j
+prepare_is j namespace key parent labels n k p l =
+    ap (λ x. calls.Prepare x key parent labels) n
+    ∙ (ap (λ x. calls.Prepare j.namespace x parent labels) k ∙ (ap (λ x. calls.Prepare j.namespace j.key x labels) p ∙ ap (λ x. calls.Prepare j.namespace j.key j.parent x) l))
 
-  pub taped : (old new : SessionValue) (call : Call) (given : Given) (reply : Reply) → Taped old new call given reply → IsWorkFor j call → GoesOn j old new (commit_of call given reply [])
-  taped old new call given reply t work = record { number = t.number; more = call_entry old.number call given reply ∷ []; tape = t.tape; calls = (work, tt); commits = refl }
-
-  pub refused : (old new : SessionValue) (call : Call) (given : Given) (why : Refusal) → RefusedOn old new call given why → IsWorkFor j call → GoesOn j old new []
-  refused old new call given JournalFull by work = untaped old new by
-  refused old new call given (OutOfMemory want) by work = untaped old new by
-  refused old new call given why by work = subst (GoesOn j old new) (commit_of_refused call given why) (taped old new call given (replies.Refused why) by work)
-
-  pub stays : (old new : SessionValue) → new ≡ old → GoesOn j old new []
-  stays old new same = subst (λ (s : SessionValue). GoesOn j old s []) (sym same) (record { number = refl; more = []; tape = sym (append-nil old.tape); calls = tt; commits = refl })
-
-  pub then_on : (old mid new : SessionValue) (granted : List Granted) → GoesOn j old mid [] → GoesOn j mid new granted → GoesOn j old new granted
-  then_on old mid new granted p q = record {
-    number = q.number ∙ p.number;
-    more = p.more ++ q.more;
-    tape = q.tape ∙ (ap (λ (l : List Entry). l ++ q.more) p.tape ∙ append_assoc old.tape p.more q.more);
-    calls = all_append (λ e. IsWorkFor j e.call) p.more q.more p.calls q.calls;
-    commits = commits_append p.more q.more ∙ (ap (λ (l : List Granted). l ++ commits q.more) p.commits ∙ q.commits);
-  }
-
-  -- an operation with its charge
-  charged : (s t : SessionValue) (old new : ActiveValue) (op : Op) (need want : Usage) (result : Result Unit RunError) → want ≡ wanted_charge need j.extra → HasCharged s t old new op need want result → GoesOn j s t []
-  charged s t old new op need want (Ok done) is h = taped s t (calls.Charge old.share.slot old.share.id need want) Nothing (replies.Charged new.share.usage) h.0.taped is
-  charged s t old new op need want (Err (File e)) is h = taped s t (calls.Charge old.share.slot old.share.id need want) Nothing (replies.Charged new.share.usage) h.1.taped is
-  charged s t old new op need want (Err (Book why)) is h = refused s t (calls.Charge old.share.slot old.share.id need want) Nothing why h.0 is
-
-  failed : (s t : SessionValue) (old new : ActiveValue) (op : Op) (e : FsError) (need : Option Usage) (result : Result Unit RunError) → HasFailed s t old new op j.extra e need result → GoesOn j s t []
-  failed s t old new op e (Some need) result h = charged s t old new op need (wanted_charge need j.extra) result refl h
-  failed s t old new op e None result h = stays s t h.1
-
-  followed : (s t : SessionValue) (old new : ActiveValue) (op : Op) (first : Outcome) (result : Result Unit RunError) → Follows s t old new op j.extra first result → GoesOn j s t []
-  followed s t old new op (Ok next) result h = stays s t h.1
-  followed s t old new op (Err e) result h = failed s t old new op e (needed_by e) result h
-
-  pub run_goes : (s t : SessionValue) (old new : ActiveValue) (op : Op) (result : Result Unit RunError) → HasRun s t old new op j.extra result → GoesOn j s t []
-  run_goes s t old new op result h = followed s t old new op h.first result h.follows
-
-  -- a prepare
-  pub prepare_goes : (inodes : ℕ) (s t : SessionValue) (namespace key parent : Bytes) (labels : List Label) (answer : Result ActiveValue Refusal)
-      → IsWorkFor j (calls.Prepare namespace key parent labels)
-      → IfOk answer (λ a. IsPrepared inodes s t namespace key parent labels a) → IfErr answer (λ why. RefusedOn s t (calls.Prepare namespace key parent labels) Nothing why) → GoesOn j s t []
-  prepare_goes inodes s t namespace key parent labels (Ok a) work granted none = taped s t (calls.Prepare namespace key parent labels) Nothing _ granted.taped work
-  prepare_goes inodes s t namespace key parent labels (Err why) work none by = refused s t (calls.Prepare namespace key parent labels) Nothing why by work
-
-  -- a commit under a text that is the job's name
-  pub commits_as : (name text : Bytes) (lease : Option Bytes) → j.end ≡ ends.Commit name lease → text ≡ name → j.end ≡ ends.Commit text lease
-  commits_as name text lease end named = end ∙ ap (λ n. ends.Commit n lease) (sym named)
-
-  -- a commit
-  pub commit_goes : (s t : SessionValue) (a sealed : ActiveValue) (name text : Bytes) (lease : Option Bytes) (usage : Usage)
-      → j.end ≡ ends.Commit name lease → sealed ≡ a → text ≡ name → usage ≡ count_of sealed.layer
-      → Taped s t (calls.Commit sealed.share.slot sealed.share.id text lease None) (Layer sealed.layer) (replies.Committed sealed.share.id usage) → GoesOn j s t (commit_granted a name lease ∷ [])
-  commit_goes s t a sealed name text lease usage end is named counted call =
-      subst (λ (x : ActiveValue). GoesOn j s t (commit_granted x name lease ∷ [])) is
-      (subst (λ (n : Bytes). GoesOn j s t (commit_granted sealed n lease ∷ [])) named
-      (subst (λ (u : Usage). GoesOn j s t (record { id = sealed.share.id; name = text; lease = lease; layer = sealed.layer; usage = u } ∷ [])) counted
-      (taped s t (calls.Commit sealed.share.slot sealed.share.id text lease None) (Layer sealed.layer) (replies.Committed sealed.share.id usage) call (commits_as name text lease end named, refl))))
-
--- ---- what is known of a snapshot, once the tape has gone on
-
-pub ready : {inodes : ℕ} → (old new : SessionValue) (j : Job) (before after : ActiveValue) → IsFresh inodes old.tape j before → GoesOn j old new [] → IsSameSnapshot before after → all_after j.ops before.layer before.lowers ≡ Ok after.layer → IsReadyToEnd inodes new.tape j after
-ready old new j before after fresh goes same done = record {
-  prepared = subst (λ (l : List Entry). Any (IsPrepareOf j after.share.id) l) (sym goes.tape) (any_left (IsPrepareOf j after.share.id) old.tape goes.more (subst (λ id. Any (IsPrepareOf j id) old.tape) (sym same.id) fresh.prepared));
-  made = record { lowers = before.lowers; base = fresh.base; made = ap (λ (t : Tree). all_after j.ops t before.lowers) (sym fresh.layer) ∙ done };
-}
-
--- a job that has no commit
-pub ends_so : {inodes : ℕ} → (old new : SessionValue) (j : Job) (end : Ended) → with_end j end [] ≡ [] → IsEndOf inodes j end → GoesOn j old new [] → HasRunJob inodes old new j end
-ends_so {inodes = inodes} old new j end none own goes = record { granted = []; goes = goes; of = subst (λ (l : List Done). AllZip (IsCommitOf inodes new.tape) l []) (sym none) tt; own = own }
-
--- a job that was committed
-pub committed_so : {inodes : ℕ} → (old new : SessionValue) (j : Job) (a : ActiveValue) (name : Bytes) (lease : Option Bytes) (id : ℕ) (usage : Usage) → j.end ≡ ends.Commit name lease → IsReadyToEnd inodes old.tape j a → id ≡ a.share.id → usage ≡ count_of a.layer → GoesOn j old new (commit_granted a name lease ∷ []) → HasRunJob inodes old new j (ended.Committed id usage)
-committed_so old new j a name lease id usage end ready same counted goes = record {
-  granted = commit_granted a name lease ∷ [];
-  goes = goes;
-  of = (
+fresh_so : (inodes : ℕ) (old mid new : SessionValue) (j : Job) (namespace key parent : Bytes) (labels : List Label) (a : ActiveValue) → Untaped old mid → namespace ≡ j.namespace → key ≡ j.key → parent ≡ j.parent → labels ≡ [] → IsPrepared inodes mid new namespace key parent labels a → IsFresh inodes old new j a
+fresh_so inodes old mid new j namespace key parent labels a same n k p l is =
+    let chain = ids_of (ancestors a.namespace parent is.met.records) in
+    let call = subst (λ (c : Call). Taped mid new c Nothing (replies.Prepared a.share.id a.share.slot chain)) (prepare_is j namespace key parent labels n k p l) is.taped in
     record {
-      end = end;
-      id = sym same;
-      prepared = subst (λ (l : List Entry). Any (IsPrepareOf j a.share.id) l) (sym goes.tape) (any_left (IsPrepareOf j a.share.id) old.tape goes.more ready.prepared);
-      made = ready.made;
-      usage = sym counted;
-      count = counted;
-    },
-    tt,
-  );
-  own = tt;
-}
+      chain = chain;
+      went = from_untaped old mid new (λ m. prepared_entry m j a.share.slot a.share.id chain ∷ []) same (taped mid new (prepare_call j) Nothing (replies.Prepared a.share.id a.share.slot chain) call);
+      base = λ none. is.base (p ∙ none);
+      layer = is.layer;
+    }
 
--- the tape went on before
-pub then_ended : {inodes : ℕ} → (old mid new : SessionValue) (j : Job) (end : Ended) → GoesOn j old mid [] → HasRunJob inodes mid new j end → HasRunJob inodes old new j end
-then_ended old mid new j end before job = record { granted = job.granted; goes = then_on j old mid new job.granted before job.goes; of = job.of; own = job.own }
+pub prepare_granted : (inodes : ℕ) (old mid new : SessionValue) (j : Job) (namespace key parent : Bytes) (labels : List Label) (answer : Result ActiveValue Refusal) → Untaped old mid → namespace ≡ j.namespace → key ≡ j.key → parent ≡ j.parent → labels ≡ [] → IfOk answer (λ a. IsPrepared inodes mid new namespace key parent labels a) → IfOk answer (λ a. IsFresh inodes old new j a)
+prepare_granted inodes old mid new j namespace key parent labels (Ok a) same n k p l is = fresh_so inodes old mid new j namespace key parent labels a same n k p l is
+prepare_granted inodes old mid new j namespace key parent labels (Err why) same n k p l is = tt
+
+pub prepare_refused : (old mid new : SessionValue) (j : Job) (namespace key parent : Bytes) (labels : List Label) (answer : Result ActiveValue Refusal) → Untaped old mid → namespace ≡ j.namespace → key ≡ j.key → parent ≡ j.parent → labels ≡ [] → IfErr answer (λ why. RefusedOn mid new (calls.Prepare namespace key parent labels) Nothing why) → IfErr answer (λ why. Went old new (refused_entry old.number (prepare_call j) Nothing why))
+prepare_refused old mid new j namespace key parent labels (Ok a) same n k p l by = tt
+prepare_refused old mid new j namespace key parent labels (Err why) same n k p l by =
+    from_untaped old mid new (λ m. refused_entry m (prepare_call j) Nothing why) same (refused mid new (prepare_call j) Nothing why (subst (λ (c : Call). RefusedOn mid new c Nothing why) (prepare_is j namespace key parent labels n k p l) by))
+
+-- ---- a discard and a commit
+
+pub discard_went : (s t : SessionValue) (slot id : ℕ) (freed held : Usage) → freed ≡ held → Taped s t (calls.Discard slot id) Nothing (replies.Discarded freed) → Went s t (discard_entry s.number slot id held ∷ [])
+discard_went s t slot id freed held is call = subst (λ (u : Usage). Went s t (discard_entry s.number slot id u ∷ [])) is (taped s t (calls.Discard slot id) Nothing (replies.Discarded freed) call)
+
+abbrev pub commit_call : ActiveValue → Bytes → Option Bytes → Call
+commit_call a name lease = calls.Commit a.share.slot a.share.id name lease None
+
+pub commit_went : (old mid new : SessionValue) (a sealed : ActiveValue) (name text : Bytes) (lease : Option Bytes) (usage : Usage) → sealed ≡ a → text ≡ name → Untaped old mid → Taped mid new (commit_call sealed text lease) (Layer sealed.layer) (replies.Committed sealed.share.id usage)
+    → Went old new (call_entry old.number (commit_call a name lease) (Layer a.layer) (replies.Committed a.share.id usage) ∷ [])
+commit_went old mid new a sealed name text lease usage is named same call =
+    from_untaped old mid new (λ n. call_entry n (commit_call a name lease) (Layer a.layer) (replies.Committed a.share.id usage) ∷ []) same
+    (subst (λ (x : ActiveValue). Went mid new (call_entry mid.number (commit_call x name lease) (Layer x.layer) (replies.Committed x.share.id usage) ∷ [])) is
+    (subst (λ (x : Bytes). Went mid new (call_entry mid.number (commit_call sealed x lease) (Layer sealed.layer) (replies.Committed sealed.share.id usage) ∷ [])) named
+    (taped mid new (commit_call sealed text lease) (Layer sealed.layer) (replies.Committed sealed.share.id usage) call)))
+
+-- a refused commit, after which the snapshot that came back is discarded
+pub commit_refused : (old mid new end : SessionValue) (a sealed back : ActiveValue) (name text : Bytes) (lease : Option Bytes) (why : Refusal) → sealed ≡ a → back ≡ sealed → text ≡ name → Untaped old mid → RefusedOn mid new (commit_call sealed text lease) (Layer sealed.layer) why → Went new end (discard_entry new.number back.share.slot back.share.id back.share.usage ∷ [])
+    → Went old end (refused_entry old.number (commit_call a name lease) (Layer a.layer) why ++ discard_entry old.number a.share.slot a.share.id a.share.usage ∷ [])
+commit_refused old mid new end a sealed back name text lease why is came named same by went =
+    let call = subst (λ (x : ActiveValue). RefusedOn mid new (commit_call x name lease) (Layer x.layer) why) is (subst (λ (x : Bytes). RefusedOn mid new (commit_call sealed x lease) (Layer sealed.layer) why) named by) in
+    let first = from_untaped old mid new (λ n. refused_entry n (commit_call a name lease) (Layer a.layer) why) same (refused mid new (commit_call a name lease) (Layer a.layer) why call) in
+    then_so old new end (refused_entry old.number (commit_call a name lease) (Layer a.layer) why) (λ n. discard_entry n a.share.slot a.share.id a.share.usage ∷ []) first
+    (subst (λ (x : ActiveValue). Went new end (discard_entry new.number x.share.slot x.share.id x.share.usage ∷ [])) (came ∙ is) went)
+
+-- no memory for the commit, and the snapshot is discarded
+pub commit_none : (old mid end : SessionValue) (a back : ActiveValue) (name : Bytes) (lease : Option Bytes) (why : Refusal) → back ≡ a → why ≡ OutOfMemory no_memory → Untaped old mid → Went mid end (discard_entry mid.number back.share.slot back.share.id back.share.usage ∷ [])
+    → Went old end (refused_entry old.number (commit_call a name lease) (Layer a.layer) why ++ discard_entry old.number a.share.slot a.share.id a.share.usage ∷ [])
+commit_none old mid end a back name lease why is memory same went =
+    subst (λ (w : Refusal). Went old end (refused_entry old.number (commit_call a name lease) (Layer a.layer) w ++ discard_entry old.number a.share.slot a.share.id a.share.usage ∷ [])) (sym memory)
+    (from_untaped old mid end (λ n. discard_entry n a.share.slot a.share.id a.share.usage ∷ []) same (subst (λ (x : ActiveValue). Went mid end (discard_entry mid.number x.share.slot x.share.id x.share.usage ∷ [])) is went))
 
 -- ---- several operations
 
@@ -214,25 +151,92 @@ all_after-more ops i op d layer mid next lowers now low is same before then =
 pub same_snapshot : (a b c : ActiveValue) → IsSameSnapshot a b → IsSameSnapshot b c → IsSameSnapshot a c
 same_snapshot a b c p q = record { namespace = q.namespace ∙ p.namespace; key = q.key ∙ p.key; lowers = q.lowers ∙ p.lowers; slot = q.slot ∙ p.slot; id = q.id ∙ p.id }
 
+-- ---- operations, one after another
+
+-- once room was made on the tape
+pub tried_from : (j : Job) (old mid new : SessionValue) (a : ActiveValue) (op : Op) (result : Result Unit RunError) → Untaped old mid → HasTried j mid new a op result → HasTried j old new a op result
+tried_from j old mid new a op (Ok done) same (more, covered, went) = (more, subst (λ n. IsWithinOrCharged n j a op more) same.number covered, then_on old mid new [] more (untaped old mid same) went)
+tried_from j old mid new a op (Err error) same (more, entry, covered, why, went) = (
+  more,
+  entry,
+  subst (λ n. IsWithinOrCharged n j a op more) same.number covered,
+  subst (λ n. IsErrorOf n j a.share.slot a.share.id error op a.layer a.lowers entry) same.number why,
+  then_on old mid new [] (more ++ entry) (untaped old mid same) went,
+)
+
+-- no memory for room on the tape
+pub tried_none : (j : Job) (old new : SessionValue) (a : ActiveValue) (op : Op) (want : Refusal) → want ≡ OutOfMemory no_memory → new ≡ old → HasTried j old new a op (Err (Book want))
+tried_none j old new a op want is same = ([], [], inl refl, inl (is, refl), stays old new same)
+
+abbrev AreCharges : ℕ → Job → ActiveValue → List Entry → Type 0
+AreCharges n j a es = AllByRecursion (IsCharge n j a.share.slot a.share.id a.layer a.lowers) es
+
+-- the entries of a covered operation, after those before it
+covered_charges : (n : ℕ) (j : Job) (a b : ActiveValue) (i : ℕ) (op d : Op) (more : List Entry) → i < length j.ops → op ≡ get_or j.ops i d → IsSameSnapshot a b → all_after (take i j.ops) a.layer a.lowers ≡ Ok b.layer → IsWithinOrCharged n j b op more → AreCharges n j a more
+covered_charges n j a b i op d more low is same before (inl none) = subst (AreCharges n j a) (sym none) tt
+covered_charges n j a b i op d more low is same before (inr (next, now, done, are)) = subst (AreCharges n j a) (sym are) (
+  record {
+    place = i;
+    next = next;
+    now = now;
+    inside = low;
+    made = all_after-more j.ops i op d a.layer b.layer next a.lowers b.lowers low is same.lowers before done;
+    is =
+        ap (λ slot. call_entry n (charge_call j slot b.share.id (count_of next)) Nothing (replies.Charged now)) same.slot
+        ∙ ap (λ id. call_entry n (charge_call j a.share.slot id (count_of next)) Nothing (replies.Charged now)) same.id;
+  },
+  tt,
+)
+
+pub operated_none : (j : Job) (a : ActiveValue) (s : SessionValue) → HasOperated j a s s []
+operated_none j a s = record { charges = []; needed = tt; went = stays s s refl }
+
+operated_more : (j : Job) (a : ActiveValue) (s t u : SessionValue) (more last : List Entry) → HasOperated j a s t [] → AreCharges s.number j a more → Went t u (more ++ last) → HasOperated j a s u last
+operated_more j a s t u more last was needed went = record {
+  charges = was.charges ++ more;
+  needed = all_append (IsCharge s.number j a.share.slot a.share.id a.layer a.lowers) was.charges more was.needed needed;
+  went = subst (Went s u) (ap (λ (l : List Entry). l ++ (more ++ last)) (append-nil was.charges) ∙ sym (append_assoc was.charges more last)) (then_on s t u (was.charges ++ []) (more ++ last) was.went went);
+}
+
+-- other entries after them
+pub operated_then : (j : Job) (a : ActiveValue) (s t u : SessionValue) (last : List Entry) (q : ℕ → List Entry) → HasOperated j a s t last → Went t u (q t.number) → HasOperated j a s u (last ++ q s.number)
+operated_then j a s t u last q was went = record {
+  charges = was.charges;
+  needed = was.needed;
+  went = subst (Went s u) (append_assoc was.charges last (q s.number)) (then_so s t u (was.charges ++ last) q was.went went);
+}
+
+-- one operation more is done
+pub operated_on : (j : Job) (a b : ActiveValue) (s t asked u : SessionValue) (i : ℕ) (op d : Op) → i < length j.ops → op ≡ get_or j.ops i d → IsSameSnapshot a b → all_after (take i j.ops) a.layer a.lowers ≡ Ok b.layer → HasOperated j a s t [] → asked ≡ t → HasTried j asked u b op (Ok tt) → HasOperated j a s u []
+operated_on j a b s t asked u i op d low is same before was still tried = by (subst (λ (x : SessionValue). HasTried j x u b op (Ok tt)) still tried)
+  where
+    by : HasTried j t u b op (Ok tt) → HasOperated j a s u []
+    by (more, covered, went) = operated_more j a s t u more [] was (covered_charges s.number j a b i op d more low is same before (subst (λ n. IsWithinOrCharged n j b op more) was.went.number covered)) (subst (Went t u) (sym (append-nil more)) went)
+
 -- ---- an operation that is not done
 
--- the one at this place, where those before it are done
-pub undone : (ops : List Op) (i place : ℕ) (op : Op) (error : RunError) (layer at : Tree) (lowers now : List Tree) → i < length ops → place ≡ i + 1 → op ≡ get_or ops i op → now ≡ lowers → all_after (take i ops) layer lowers ≡ Ok at → IsErrorOf error op at now → IsUndone ops place error layer lowers
-undone ops i place op error layer at lowers now low next is same before why =
+undone : (n : ℕ) (j : Job) (a b : ActiveValue) (i place : ℕ) (op : Op) (error : RunError) (entry : List Entry) → i < length j.ops → place ≡ i + 1 → op ≡ get_or j.ops i op → IsSameSnapshot a b → all_after (take i j.ops) a.layer a.lowers ≡ Ok b.layer → IsErrorOf n j b.share.slot b.share.id error op b.layer b.lowers entry → IsUndone n j a.share.slot a.share.id place error a.layer a.lowers entry
+undone n j a b i place op error entry low next is same before why =
     let back : place - 1 ≡ i = omega (arith, next) in
     record {
       op = op;
-      at = at;
+      at = b.layer;
       first = omega (arith, next);
-      is = ap (slice_get ops) back ∙ (slice_get-get_or ops i op low ∙ ap (λ (o : Op). Some o) (sym is));
-      made = ap (λ k. all_after (take k ops) layer lowers) back ∙ before;
-      why = subst (λ (l : List Tree). IsErrorOf error op at l) same why;
+      is = ap (slice_get j.ops) back ∙ (slice_get-get_or j.ops i op low ∙ ap (λ (o : Op). Some o) (sym is));
+      made = ap (λ k. all_after (take k j.ops) a.layer a.lowers) back ∙ before;
+      why =
+          subst (λ (l : List Tree). IsErrorOf n j a.share.slot a.share.id error op b.layer l entry) same.lowers
+          (subst (λ id. IsErrorOf n j a.share.slot id error op b.layer b.lowers entry) same.id (subst (λ slot. IsErrorOf n j slot b.share.id error op b.layer b.lowers entry) same.slot why));
     }
 
--- so the job's, on its snapshot as it was prepared
-pub failed_so : {inodes : ℕ} → (tape : List Entry) (j : Job) (a : ActiveValue) (stop : Stop) (place : ℕ) (error : RunError) → IsFresh inodes tape j a → stop ≡ Failed place error → IsStopOf j.ops a.layer a.lowers stop → IsFailed inodes j place error
-failed_so tape j a stop place error fresh is why = record {
-  lowers = a.lowers;
-  base = fresh.base;
-  undone = subst (λ (t : Tree). IsUndone j.ops place error t a.lowers) fresh.layer (subst (IsStopOf j.ops a.layer a.lowers) is why);
-}
+-- the operation at this place, where those before it are done
+pub operated_up_to : (j : Job) (a b : ActiveValue) (s t asked u : SessionValue) (i place : ℕ) (op : Op) (error : RunError) → i < length j.ops → place ≡ i + 1 → op ≡ get_or j.ops i op → IsSameSnapshot a b → all_after (take i j.ops) a.layer a.lowers ≡ Ok b.layer → HasOperated j a s t [] → asked ≡ t → HasTried j asked u b op (Err error)
+    → (entry : List Entry) × HasOperated j a s u entry × IsUndone s.number j a.share.slot a.share.id place error a.layer a.lowers entry
+operated_up_to j a b s t asked u i place op error low next is same before was still tried = by (subst (λ (x : SessionValue). HasTried j x u b op (Err error)) still tried)
+  where
+    by : HasTried j t u b op (Err error) → (entry : List Entry) × HasOperated j a s u entry × IsUndone s.number j a.share.slot a.share.id place error a.layer a.lowers entry
+    by (more, entry, covered, why, went) = (
+      entry,
+      operated_more j a s t u more entry was (covered_charges s.number j a b i op op more low is same before (subst (λ n. IsWithinOrCharged n j b op more) was.went.number covered)) went,
+      undone s.number j a b i place op error entry low next is same before (subst (λ n. IsErrorOf n j b.share.slot b.share.id error op b.layer b.lowers entry) was.went.number why),
+    )

@@ -2,8 +2,7 @@
 use Rattle.std.specs.Prelude.{get_or, drop}
 use Rattle.std.proofs.Common.{◌≡◌, ℕ, zero, suc, ◌+◌, ◌-◌, ◌<◌, List, [], ◌∷◌, ◌++◌, length, ap, ◌∙◌, subst, arith}
 use Rattle.std.proofs.Math.Seq.{drop-cons}
-use Rattle.snap_writers.specs.Jobs.{every}
-use Rattle.snap_writers.specs.Starting.{Each}
+use Rattle.snap_writers.specs.Jobs.{Each, every}
 
 -- from an index on, an element that is passed over
 pub passed_over : {A : Type 0} (n skip i : ℕ) (xs : List A) (d : A) → i < length xs → 0 < skip → every n skip (drop i xs) ≡ every n (skip - 1) (drop (i + 1) xs)
@@ -26,3 +25,8 @@ each_last P k (y ∷ xs) x each here = (each.0, each_last P (k + 1) xs x each.1 
 -- one element more in its place
 pub each_more : {A : Type 0} (P : ℕ → A → Type 0) (xs : List A) (x : A) → Each P 0 xs → P (length xs) x → Each P 0 (xs ++ x ∷ [])
 each_more P xs x each here = each_last P 0 xs x each (subst (λ n. P n x) (omega arith) here)
+
+-- what each element has gives each another thing
+pub each_weaker : {A : Type 0} (P Q : ℕ → A → Type 0) → ((k : ℕ) (x : A) → P k x → Q k x) → (k : ℕ) (xs : List A) → Each P k xs → Each Q k xs
+each_weaker P Q f k [] each = tt
+each_weaker P Q f k (x ∷ xs) each = (f k x each.0, each_weaker P Q f (k + 1) xs each.1)

@@ -1,10 +1,11 @@
 pub mod Needing
-pub mod Erring
 pub mod Calling
+pub mod Erring
+pub mod Ending
 pub mod Every
 pub mod Walking
 pub mod Turning
 pub mod Sums
-pub mod Storing
 pub mod Weaving
+pub mod Storing
 pub mod Reporting

@@ -6,8 +6,7 @@ use Rattle.std.proofs.Math.Seq.{drop-cons}
 use Rattle.snap_writers.specs.declared.job.Job.{Job}
 use Rattle.snap_writers.specs.declared.job.Ended.{Ended}
 use Rattle.snap_writers.specs.declared.job.Worked.{Worked}
-use Rattle.snap_writers.specs.Jobs.{IsWorked, every}
-use Rattle.snap_writers.specs.Starting.{Each, ends_at}
+use Rattle.snap_writers.specs.Jobs.{Each, ends_at, every, jobs_of}
 use Rattle.snap_writers.proofs.Every.{passed_over, taken_up}
 
 -- of a worker's ends so many are taken, and its next job is so many jobs away
@@ -90,14 +89,14 @@ ends_are [] k d low = absurd (omega (arith, low))
 ends_are (w ∷ ws) zero d low = refl
 ends_are (w ∷ ws) (suc k) d low = ends_are ws k d (omega (arith, low))
 
-counted : (inodes : ℕ) → (jobs : List Job) (n m k : ℕ) (ws : List Worked) → Each (λ k w. IsWorked inodes jobs (k + 1) n w) m ws → k < length ws → length (ends_at ws k) ≡ length (every n (m + k) jobs)
-counted inodes jobs n m k [] each low = absurd (omega (arith, low))
-counted inodes jobs n m zero (w ∷ ws) each low = let e : m + 1 - 1 ≡ m + 0 = omega arith in each.0.ends ∙ ap (λ s. length (every n s jobs)) e
-counted inodes jobs n m (suc k) (w ∷ ws) each low = let e : m + 1 + k ≡ m + suc k = omega arith in counted inodes jobs n (m + 1) k ws each.1 (omega (arith, low)) ∙ ap (λ s. length (every n s jobs)) e
+counted : (jobs : List Job) (n m k : ℕ) (ws : List Worked) → Each (λ k w. length w.ends ≡ length (jobs_of jobs (k + 1) n)) m ws → k < length ws → length (ends_at ws k) ≡ length (every n (m + k) jobs)
+counted jobs n m k [] each low = absurd (omega (arith, low))
+counted jobs n m zero (w ∷ ws) each low = let e : m + 1 - 1 ≡ m + 0 = omega arith in each.0 ∙ ap (λ s. length (every n s jobs)) e
+counted jobs n m (suc k) (w ∷ ws) each low = let e : m + 1 + k ≡ m + suc k = omega arith in counted jobs n (m + 1) k ws each.1 (omega (arith, low)) ∙ ap (λ s. length (every n s jobs)) e
 
-pub turns_begin : (inodes : ℕ) → (jobs : List Job) (n : ℕ) (ws : List Worked) → length ws ≡ n → Each (λ k w. IsWorked inodes jobs (k + 1) n w) 0 ws → Turns n 0 0 0 jobs [] ws
-turns_begin inodes jobs n ws count each = record {
-  later = λ k a b. at_skip n k k (k - 0) 0 0 0 jobs [] (ends_at ws k) (omega arith) refl (begins n k jobs (ends_at ws k) (let e : 0 + k ≡ k = omega arith in counted inodes jobs n 0 k ws each (omega (arith, b, count)) ∙ ap (λ s. length (every n s jobs)) e));
+pub turns_begin : (jobs : List Job) (n : ℕ) (ws : List Worked) → length ws ≡ n → Each (λ k w. length w.ends ≡ length (jobs_of jobs (k + 1) n)) 0 ws → Turns n 0 0 0 jobs [] ws
+turns_begin jobs n ws count each = record {
+  later = λ k a b. at_skip n k k (k - 0) 0 0 0 jobs [] (ends_at ws k) (omega arith) refl (begins n k jobs (ends_at ws k) (let e : 0 + k ≡ k = omega arith in counted jobs n 0 k ws each (omega (arith, b, count)) ∙ ap (λ s. length (every n s jobs)) e));
   before = λ k a. absurd (omega (arith, a));
 }
 

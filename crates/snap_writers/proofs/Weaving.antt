@@ -8,7 +8,7 @@ use Rattle.snap_grants.proofs.Tapes.{nothing, sum_same}
 use Rattle.snap_writers.specs.declared.job.Job.{Job}
 use Rattle.snap_writers.specs.declared.job.Ended.{Ended}
 use Rattle.snap_writers.specs.declared.job.Ended.TheVariants as ended
-use Rattle.snap_writers.specs.Jobs.{Done, IsEndOf, IsStoredOf, done, every, total, with_end}
+use Rattle.snap_writers.specs.Jobs.{Done, IsStoredOf, done, every, total, with_end}
 use Rattle.snap_writers.proofs.Sums.{sum_first}
 
 -- what is stored for one job, and for those after it
@@ -24,7 +24,7 @@ parts j (ended.Committed id usage) rest [] p = absurd p
 parts j (ended.Committed id usage) rest (s ∷ ss) p = record { front = s ∷ []; back = ss; both = refl; first = (p.0, tt); others = p.1 }
 parts j e rest stored p = record { front = []; back = stored; both = refl; first = tt; others = p }
 
-put_first : (inodes : ℕ) → (j : Job) (e : Ended) (rest : List Done) (front back : List Stored) → AllZip (IsStoredOf inodes) (with_end j e []) front → AllZip (IsStoredOf inodes) rest back → AllZip (IsStoredOf inodes) (with_end j e rest) (front ++ back)
+pub put_first : (inodes : ℕ) → (j : Job) (e : Ended) (rest : List Done) (front back : List Stored) → AllZip (IsStoredOf inodes) (with_end j e []) front → AllZip (IsStoredOf inodes) rest back → AllZip (IsStoredOf inodes) (with_end j e rest) (front ++ back)
 put_first inodes j (ended.Committed id usage) rest [] back p q = absurd p
 put_first inodes j (ended.Committed id usage) rest (s ∷ []) back p q = (p.0, q)
 put_first inodes j (ended.Committed id usage) rest (s ∷ t ∷ ss) back p q = absurd p.1
@@ -101,17 +101,17 @@ woven m (j ∷ js) (e ∷ es) lists size each =
     let first = first_of m j js e es (lists 0) (each 0 (omega arith)) in
     weave m j js e es lists first (woven m js es (turned m first.back lists) (omega (arith, size)) (λ k low. moved m j js e es lists first each k low (k == m) refl))
 
--- ---- ends that owe something each
+-- ---- ends, of which each is owed something
 
-own_moved : {inodes : ℕ} → (m : ℕ) (j : Job) (js : List Job) (e : Ended) (es : List Ended) → ((k : ℕ) → k < suc m → AllZip (IsEndOf inodes) (every (suc m) k (j ∷ js)) (every (suc m) k (e ∷ es))) → (k : ℕ) → k < suc m → (b : Bool) → (k == m) ≡ b → AllZip (IsEndOf inodes) (every (suc m) k js) (every (suc m) k es)
-own_moved {inodes = inodes} m j js e es each k low true is =
+own_moved : (R : Job → Ended → Type 0) (m : ℕ) (j : Job) (js : List Job) (e : Ended) (es : List Ended) → ((k : ℕ) → k < suc m → AllZip R (every (suc m) k (j ∷ js)) (every (suc m) k (e ∷ es))) → (k : ℕ) → k < suc m → (b : Bool) → (k == m) ≡ b → AllZip R (every (suc m) k js) (every (suc m) k es)
+own_moved R m j js e es each k low true is =
     let last : suc m - 1 ≡ k = omega (arith, eqb-true k m is) in
-    subst (λ i. AllZip (IsEndOf inodes) (every (suc m) i js) (every (suc m) i es)) last (each 0 (omega arith)).1
-own_moved m j js e es each k low false is = each (suc k) (omega (arith, low, other k m is))
+    subst (λ i. AllZip R (every (suc m) i js) (every (suc m) i es)) last (each 0 (omega arith)).1
+own_moved R m j js e es each k low false is = each (suc k) (omega (arith, low, other k m is))
 
 -- where each of n workers' ends are its jobs', so are all
-pub own_woven : (inodes : ℕ) → (m : ℕ) (jobs : List Job) (ends : List Ended) → length ends ≡ length jobs → ((k : ℕ) → k < suc m → AllZip (IsEndOf inodes) (every (suc m) k jobs) (every (suc m) k ends)) → AllZip (IsEndOf inodes) jobs ends
-own_woven inodes m [] [] size each = tt
-own_woven inodes m [] (e ∷ es) size each = absurd (omega (arith, size))
-own_woven inodes m (j ∷ js) [] size each = absurd (omega (arith, size))
-own_woven inodes m (j ∷ js) (e ∷ es) size each = ((each 0 (omega arith)).0, own_woven inodes m js es (omega (arith, size)) (λ k low. own_moved m j js e es each k low (k == m) refl))
+pub own_woven : (R : Job → Ended → Type 0) (m : ℕ) (jobs : List Job) (ends : List Ended) → length ends ≡ length jobs → ((k : ℕ) → k < suc m → AllZip R (every (suc m) k jobs) (every (suc m) k ends)) → AllZip R jobs ends
+own_woven R m [] [] size each = tt
+own_woven R m [] (e ∷ es) size each = absurd (omega (arith, size))
+own_woven R m (j ∷ js) [] size each = absurd (omega (arith, size))
+own_woven R m (j ∷ js) (e ∷ es) size each = ((each 0 (omega arith)).0, own_woven R m js es (omega (arith, size)) (λ k low. own_moved R m j js e es each k low (k == m) refl))

@@ -1,6 +1,5 @@
 -- Jobs, and what is owed by a worker and by a run of all workers.
--- Cited by `run_worker`, `run_jobs`, `write_jobs_within` and others.
-use Rattle.std.specs.Prelude.{◌≡◌, ◌⊎◌, ◌≤◌, ℕ, zero, suc, ◌+◌, ◌-◌, List, [], ◌∷◌, length, map, take, slice_get, Any, Option, None, Some, Ok, Err}
+use Rattle.std.specs.Prelude.{◌≡◌, ◌⊎◌, ◌<◌, ◌≤◌, ℕ, zero, suc, ◌+◌, ◌-◌, Bool, true, false, List, [], ◌∷◌, ◌++◌, length, map, filter_map, take, slice_get, Option, None, Some, Ok, Err}
 use Rattle.std.specs.List.{AllByRecursion, AllZip}
 use Rattle.snap_path.specs.Memory.{no_memory}
 use Rattle.snap_layer.specs.Tree.{Tree}
@@ -64,43 +63,6 @@ abbrev pub done : List Job → List Ended → List Done
 done (j ∷ js) (e ∷ es) = with_end j e (done js es)
 done js es = []
 
--- ---- what a tape says of them
-
--- a granted Commit: its id, name and lease, the layer that was given, and the usage of its reply
-pub record Granted : Type 0 where
-  pub id : ℕ
-  pub name : Bytes
-  pub lease : Option Bytes
-  pub layer : Tree
-  pub usage : Usage
-
--- by the call, what was given and the reply: the granted Commit before the rest, or the rest alone
-abbrev pub commit_of : Call → Given → Reply → List Granted → List Granted
-commit_of (calls.Commit slot id name lease labels) (Layer layer) (replies.Committed at usage) rest =
-    record { id = id; name = name; lease = lease; layer = layer; usage = usage } ∷ rest
-commit_of call given reply rest = rest
-
--- the granted Commits of a tape, in order
-abbrev pub commits : List Entry → List Granted
-commits [] = []
-commits (e ∷ es) = commit_of e.call e.given e.reply (commits es)
-
--- a call that a worker makes for the job: its Prepare, without labels; a Charge, which wants the job's extra beyond the need; its Commit, with the snapshot's own labels; or a Discard
-abbrev pub IsWorkFor : Job → Call → Type 0
-IsWorkFor j (calls.Prepare namespace key parent labels) = (namespace ≡ j.namespace) × (key ≡ j.key) × (parent ≡ j.parent) × (labels ≡ [])
-IsWorkFor j (calls.Charge slot id need want) = want ≡ wanted_charge need j.extra
-IsWorkFor j (calls.Commit slot id name lease labels) = (j.end ≡ ends.Commit name lease) × (labels ≡ None)
-IsWorkFor j (calls.Discard slot id) = Unit {0}
-IsWorkFor j call = ⊥
-
--- a call that a worker makes for one of its jobs
-abbrev pub IsWork : List Job → Call → Type 0
-IsWork jobs call = Any (λ j. IsWorkFor j call) jobs
-
--- the entry is of a Prepare for the job, without labels, which was granted the id
-abbrev pub IsPrepareOf : Job → ℕ → Entry → Type 0
-IsPrepareOf j id e = (session slot : ℕ) × (chain : List ℕ) × (e ≡ call_entry session (calls.Prepare j.namespace j.key j.parent []) Nothing (replies.Prepared id slot chain))
-
 -- ---- what a job's operations make
 
 -- after an outcome: the next operation's where it is a layer, and else the error
@@ -119,67 +81,204 @@ pub record IsMadeBy (inodes : ℕ) (j : Job) (layer : Tree) : Type 0 where
   pub base : j.parent ≡ [] → lowers ≡ []
   pub made : all_after j.ops (fresh inodes lowers) lowers ≡ Ok layer
 
+-- ---- the calls for a job, as they stand on a worker's tape
+
+-- its Prepare, without labels
+abbrev pub prepare_call : Job → Call
+prepare_call j = calls.Prepare j.namespace j.key j.parent []
+
+-- the entry of its granted Prepare
+abbrev pub prepared_entry : ℕ → Job → ℕ → ℕ → List ℕ → Entry
+prepared_entry n j slot id chain = call_entry n (prepare_call j) Nothing (replies.Prepared id slot chain)
+
+-- a Charge of its snapshot for so much, which wants the job's extra beyond it
+abbrev pub charge_call : Job → ℕ → ℕ → Usage → Call
+charge_call j slot id need = calls.Charge slot id need (wanted_charge need j.extra)
+
+-- the entry of a Discard of its snapshot, which tells what that was charged
+abbrev pub discard_entry : ℕ → ℕ → ℕ → Usage → Entry
+discard_entry n slot id held = call_entry n (calls.Discard slot id) Nothing (replies.Discarded held)
+
+-- the entry of a refused call; none where the journal was full or memory was refused
+abbrev pub refused_entry : ℕ → Call → Given → Refusal → List Entry
+refused_entry n call given refusals.JournalFull = []
+refused_entry n call given (refusals.OutOfMemory want) = []
+refused_entry n call given why = call_entry n call given (replies.Refused why) ∷ []
+
+-- a granted Charge for one of the job's operations: what it needs is the count of the layer that the operations up to this one make
+pub record IsCharge (n : ℕ) (j : Job) (slot id : ℕ) (layer : Tree) (lowers : List Tree) (e : Entry) : Type 0 where
+  pub place : ℕ
+  pub next : Tree
+  pub now : Usage
+  pub inside : place < length j.ops
+  pub made : all_after (take (place + 1) j.ops) layer lowers ≡ Ok next
+  pub is : e ≡ call_entry n (charge_call j slot id (count_of next)) Nothing (replies.Charged now)
+
+-- the job's entries: its Prepare, which was granted this id and slot; granted Charges for its operations on a root alone, over these layers, of which there are none without a parent; and then the last ones
+pub record HasCalls (n inodes : ℕ) (j : Job) (slot id : ℕ) (lowers : List Tree) (mine last : List Entry) : Type 0 where
+  pub chain : List ℕ
+  pub charges : List Entry
+  pub base : j.parent ≡ [] → lowers ≡ []
+  pub are : mine ≡ prepared_entry n j slot id chain ∷ (charges ++ last)
+  pub needed : AllByRecursion (IsCharge n j slot id (fresh inodes lowers) lowers) charges
+
+-- the last one is a Discard, after these
+pub record IsDropped (n inodes : ℕ) (j : Job) (slot id : ℕ) (lowers : List Tree) (mine before : List Entry) : Type 0 where
+  pub held : Usage
+  pub entries : HasCalls n inodes j slot id lowers mine (before ++ discard_entry n slot id held ∷ [])
+
 -- ---- where a job's operations end
 
--- why an operation is not done on the layer: the error is its own there; or a charge was refused that it needs, and it has a next layer; or memory was refused
-abbrev pub IsErrorOf : RunError → Op → Tree → List Tree → Type 0
-IsErrorOf (File e) op layer lowers = (e ≡ errors.OutOfMemory no_memory) ⊎ (after op layer lowers ≡ Err e)
-IsErrorOf (Book why) op layer lowers = (why ≡ refusals.OutOfMemory no_memory) ⊎ ((next : Tree) × (after op layer lowers ≡ Ok next))
+-- why an operation is not done on the layer, and the entry of what was refused: the error is its own there, or memory was refused, and there is no entry; or it has a next layer, and the charge for that was refused
+abbrev pub IsErrorOf : ℕ → Job → ℕ → ℕ → RunError → Op → Tree → List Tree → List Entry → Type 0
+IsErrorOf n j slot id (File e) op layer lowers entry = ((e ≡ errors.OutOfMemory no_memory) ⊎ (after op layer lowers ≡ Err e)) × (entry ≡ [])
+IsErrorOf n j slot id (Book why) op layer lowers entry = ((why ≡ refusals.OutOfMemory no_memory) × (entry ≡ [])) ⊎ ((next : Tree) × (after op layer lowers ≡ Ok next) × (entry ≡ refused_entry n (charge_call j slot id (count_of next)) Nothing why))
 
--- of these operations the one at this place, from 1, is not done: those before it make of the layer another one, on which it has the error
-pub record IsUndone (ops : List Op) (place : ℕ) (error : RunError) (layer : Tree) (lowers : List Tree) : Type 0 where
+-- of the job's operations the one at this place, from 1, is not done: those before it make of the layer another one, on which it has the error
+pub record IsUndone (n : ℕ) (j : Job) (slot id place : ℕ) (error : RunError) (layer : Tree) (lowers : List Tree) (entry : List Entry) : Type 0 where
   pub op : Op
   pub at : Tree
   pub first : 1 ≤ place
-  pub is : slice_get ops (place - 1) ≡ Some op
-  pub made : all_after (take (place - 1) ops) layer lowers ≡ Ok at
-  pub why : IsErrorOf error op at lowers
+  pub is : slice_get j.ops (place - 1) ≡ Some op
+  pub made : all_after (take (place - 1) j.ops) layer lowers ≡ Ok at
+  pub why : IsErrorOf n j slot id error op at lowers entry
 
--- so it is of the job's operations on a root alone, over some lower layers, and over none without a parent
-pub record IsFailed (inodes : ℕ) (j : Job) (place : ℕ) (error : RunError) : Type 0 where
+-- ---- how a job ended, by its entries
+
+-- its snapshot was committed as its end says: with the layer that its operations make, and the count over that
+pub record IsCommitted (n inodes : ℕ) (j : Job) (id : ℕ) (usage : Usage) (mine : List Entry) : Type 0 where
+  pub slot : ℕ
   pub lowers : List Tree
-  pub base : j.parent ≡ [] → lowers ≡ []
-  pub undone : IsUndone j.ops place error (fresh inodes lowers) lowers
+  pub layer : Tree
+  pub name : Bytes
+  pub lease : Option Bytes
+  pub end : j.end ≡ ends.Commit name lease
+  pub made : all_after j.ops (fresh inodes lowers) lowers ≡ Ok layer
+  pub count : usage ≡ count_of layer
+  pub entries : HasCalls n inodes j slot id lowers mine (call_entry n (calls.Commit slot id name lease None) (Layer layer) (replies.Committed id usage) ∷ [])
 
--- what is owed for an end by itself: where an operation was not done, its place and its error are those that are told
-abbrev pub IsEndOf : ℕ → Job → Ended → Type 0
-IsEndOf inodes j (ended.Failed place error) = IsFailed inodes j place error
-IsEndOf inodes j end = Unit {0}
+-- the commit as its end says was refused so, once its operations were done, and its snapshot was discarded
+pub record IsNotCommitted (n inodes : ℕ) (j : Job) (why : Refusal) (mine : List Entry) : Type 0 where
+  pub slot : ℕ
+  pub id : ℕ
+  pub lowers : List Tree
+  pub layer : Tree
+  pub name : Bytes
+  pub lease : Option Bytes
+  pub end : j.end ≡ ends.Commit name lease
+  pub made : all_after j.ops (fresh inodes lowers) lowers ≡ Ok layer
+  pub dropped : IsDropped n inodes j slot id lowers mine (refused_entry n (calls.Commit slot id name lease None) (Layer layer) why)
+
+-- its end is to discard, and its snapshot was discarded once its operations were done
+pub record IsDiscarded (n inodes : ℕ) (j : Job) (mine : List Entry) : Type 0 where
+  pub slot : ℕ
+  pub id : ℕ
+  pub lowers : List Tree
+  pub layer : Tree
+  pub end : j.end ≡ ends.Discard
+  pub made : all_after j.ops (fresh inodes lowers) lowers ≡ Ok layer
+  pub dropped : IsDropped n inodes j slot id lowers mine []
+
+-- an operation was not done, and its snapshot was discarded
+pub record IsFailed (n inodes : ℕ) (j : Job) (place : ℕ) (error : RunError) (mine : List Entry) : Type 0 where
+  pub slot : ℕ
+  pub id : ℕ
+  pub lowers : List Tree
+  pub entry : List Entry
+  pub undone : IsUndone n j slot id place error (fresh inodes lowers) lowers entry
+  pub dropped : IsDropped n inodes j slot id lowers mine entry
+
+-- its snapshot was discarded before its end
+pub record IsStopped (n inodes : ℕ) (j : Job) (mine : List Entry) : Type 0 where
+  pub slot : ℕ
+  pub id : ℕ
+  pub lowers : List Tree
+  pub dropped : IsDropped n inodes j slot id lowers mine []
+
+-- what is owed for a job that ended so, by its entries on the tape of session n; S holds where the gate has stopped its worker
+abbrev pub IsEndOf : Type 0 → ℕ → ℕ → Job → Ended → List Entry → Type 0
+IsEndOf S n inodes j (ended.Committed id usage) mine = IsCommitted n inodes j id usage mine
+IsEndOf S n inodes j ended.Discarded mine = IsDiscarded n inodes j mine
+IsEndOf S n inodes j (ended.NotPrepared why) mine = mine ≡ refused_entry n (prepare_call j) Nothing why
+IsEndOf S n inodes j ended.NoThread mine = ⊥
+IsEndOf S n inodes j (ended.Failed place error) mine = IsFailed n inodes j place error mine
+IsEndOf S n inodes j (ended.NotCommitted why) mine = IsNotCommitted n inodes j why mine
+IsEndOf S n inodes j ended.NotRun mine = S × ((mine ≡ []) ⊎ IsStopped n inodes j mine)
 
 -- ---- what a worker owes
 
--- the granted Commit is the job's: under its name and in its lease; of an id that a Prepare of the tape was granted for the job, and that the job's end tells; with the layer that the job's operations make; and the usage, which the job's end tells too, is the count over it
-pub record IsCommitOf (inodes : ℕ) (tape : List Entry) (d : Done) (g : Granted) : Type 0 where
-  pub end : d.job.end ≡ ends.Commit g.name g.lease
-  pub id : g.id ≡ d.id
-  pub prepared : Any (IsPrepareOf d.job g.id) tape
-  pub made : IsMadeBy inodes d.job g.layer
-  pub usage : g.usage ≡ d.usage
-  pub count : d.usage ≡ count_of g.layer
+-- the entries are those of each job, in order, and each end is its job's
+abbrev pub AreEnds : Type 0 → ℕ → ℕ → List Job → List Ended → List Entry → Type 0
+AreEnds S n inodes [] [] entries = entries ≡ []
+AreEnds S n inodes [] (e ∷ es) entries = ⊥
+AreEnds S n inodes (j ∷ js) [] entries = ⊥
+AreEnds S n inodes (j ∷ js) (e ∷ es) entries = (mine rest : List Entry) × (entries ≡ mine ++ rest) × IsEndOf S n inodes j e mine × AreEnds S n inodes js es rest
 
--- a worker's session: its tape begins with its own opening, and has calls for its jobs alone after it; its granted Commits are, in order, those of the jobs that ended Committed; and each end is its job's
-pub record HasWorked (inodes : ℕ) (jobs : List Job) (es : List Ended) (s : SessionValue) : Type 0 where
+-- a worker's session: its tape has its own opening, and then the calls of its jobs
+pub record HasWorked (S : Type 0) (inodes : ℕ) (jobs : List Job) (es : List Ended) (s : SessionValue) : Type 0 where
   pub rest : List Entry
   pub tape : s.tape ≡ call_entry s.number calls.Session Nothing replies.Opened ∷ rest
-  pub calls : AllByRecursion (λ e. IsWork jobs e.call) rest
-  pub commits : AllZip (IsCommitOf inodes s.tape) (done jobs es) (commits s.tape)
-  pub each : AllZip (IsEndOf inodes) jobs es
+  pub each : AreEnds S s.number inodes jobs es rest
 
 -- no job was prepared, and each has this end
 abbrev pub unprepared : {X : Type 0} → Ended → List X → List Ended
 unprepared end js = map (λ _. end) js
 
--- a worker without a session has prepared no job: it got no thread, or its session was refused for one reason
-abbrev pub HaveWorked : ℕ → List Job → List Ended → Option SessionValue → Type 0
-HaveWorked inodes jobs es None = (es ≡ unprepared ended.NoThread jobs) ⊎ ((why : Refusal) × (es ≡ unprepared (ended.NotPrepared why) jobs))
-HaveWorked inodes jobs es (Some s) = HasWorked inodes jobs es s
+-- why a session is refused
+abbrev pub IsSessionRefusal : Refusal → Type 0
+IsSessionRefusal why = (why ≡ refusals.JournalFull) ⊎ ((why ≡ refusals.OutOfMemory no_memory) ⊎ (why ≡ refusals.NumbersSpent))
 
--- what a worker gives back: one end for each job of its own, and its session
-pub record IsWorked (inodes : ℕ) (jobs : List Job) (worker workers : ℕ) (w : Worked) : Type 0 where
+-- a worker without a session has prepared no job: it got no thread, or its session was refused for one reason
+abbrev pub HaveWorked : Type 0 → ℕ → List Job → List Ended → Option SessionValue → Type 0
+HaveWorked S inodes jobs es None = (es ≡ unprepared ended.NoThread jobs) ⊎ ((why : Refusal) × IsSessionRefusal why × (es ≡ unprepared (ended.NotPrepared why) jobs))
+HaveWorked S inodes jobs es (Some s) = HasWorked S inodes jobs es s
+
+-- what a worker gives back: one end for each job of its own, and its session; a job is NotRun only where it tells that the gate stopped it, and then S holds
+pub record IsWorked (S : Type 0) (inodes : ℕ) (jobs : List Job) (worker workers : ℕ) (w : Worked) : Type 0 where
   pub ends : length w.ends ≡ length (jobs_of jobs worker workers)
-  pub session : HaveWorked inodes (jobs_of jobs worker workers) w.ends w.session
+  pub stopped : w.refused ≡ true → S
+  pub session : HaveWorked (w.refused ≡ true) inodes (jobs_of jobs worker workers) w.ends w.session
+
+-- by what a gate answers to a worker at a step: it has stopped the worker
+abbrev pub HasStoppedWorker : (ℕ → ℕ → Bool → Type 0) → ℕ → Type 0
+HasStoppedWorker answers worker = (step : ℕ) × answers worker step false
+
+-- each element with its place, from k on
+abbrev pub Each : {X : Type 0} → (ℕ → X → Type 0) → ℕ → List X → Type 0
+Each P k [] = Unit {0}
+Each P k (x ∷ xs) = P k x × Each P (k + 1) xs
+
+-- each worker gave back what it owes
+pub record AreWorked (S : ℕ → Type 0) (inodes : ℕ) (jobs : List Job) (workers : ℕ) (all : List Worked) : Type 0 where
+  pub count : length all ≡ workers
+  pub each : Each (λ k w. IsWorked (S (k + 1)) inodes jobs (k + 1) workers w) 0 all
+
+-- the ends of the worker at this place, from 0
+abbrev pub ends_at : List Worked → ℕ → List Ended
+ends_at [] k = []
+ends_at (w ∷ ws) zero = w.ends
+ends_at (w ∷ ws) (suc k) = ends_at ws k
+
+-- the ends in the jobs' order: one for each job, of which those of each worker's jobs are its own, in order
+pub record AreInOrder (jobs : List Job) (workers : ℕ) (all : List Worked) (ends : List Ended) : Type 0 where
+  pub count : length ends ≡ length jobs
+  pub each : (k : ℕ) → k < workers → every workers k ends ≡ ends_at all k
+
+-- the sessions of the workers that have one
+abbrev pub sessions_of : List Worked → List SessionValue
+sessions_of ws = filter_map (λ w. w.session) ws
 
 -- ---- what a run of all workers owes
+
+-- a job for which nothing was called: its worker got no thread, or its session was refused
+abbrev pub IsUncalled : Ended → Type 0
+IsUncalled ended.NoThread = Unit {0}
+IsUncalled (ended.NotPrepared why) = IsSessionRefusal why
+IsUncalled end = ⊥
+
+-- how a job ended, by its entries on some session's tape; or nothing was called for it
+abbrev pub IsEnded : Type 0 → ℕ → Job → Ended → Type 0
+IsEnded S inodes j end = ((n : ℕ) × (mine : List Entry) × IsEndOf S n inodes j end mine) ⊎ IsUncalled end
 
 -- the committed snapshot is the job's: of its namespace, under its name and over its parent, of the id that its end tells, with the layer that the job's operations make; and the usage that its end tells is the count over it
 pub record IsStoredOf (inodes : ℕ) (d : Done) (s : Stored) : Type 0 where
@@ -195,12 +294,14 @@ abbrev pub total : (Stored → ℕ) → List Stored → ℕ
 total h [] = 0
 total h (s ∷ ss) = h s + total h ss
 
--- of a store of this round: one end for each job, in order, that is the job's; all of it once it is closed; and, however snapshots are weighed, its committed ones are those that the round began with and one for each job that ended Committed
-pub record IsReport (r : Round) (jobs : List Job) (es : List Ended) (b : BookValue) : Type 0 where
+-- of a store of this round: one end for each job, in order, that is the job's; what each worker has given back, by which these are the ends, and all of the store once it is closed with the workers' sessions; and, however snapshots are weighed, its committed ones are those that the round began with and one for each job that ended Committed. S holds of a worker that the gate has stopped
+pub record IsReport (S : ℕ → Type 0) (r : Round) (jobs : List Job) (workers : ℕ) (es : List Ended) (b : BookValue) : Type 0 where
   pub count : length es ≡ length jobs
-  pub each : AllZip (IsEndOf r.opening.layer_inodes) jobs es
-  pub sessions : List SessionValue
-  pub closed : IsClosedStore r b sessions
+  pub each : AllZip (IsEnded ((worker : ℕ) × S worker) r.opening.layer_inodes) jobs es
+  pub all : List Worked
+  pub worked : AreWorked S r.opening.layer_inodes jobs workers all
+  pub order : AreInOrder jobs workers all es
+  pub closed : IsClosedStore r b (sessions_of all)
   pub stored : List Stored
   pub of : AllZip (IsStoredOf r.opening.layer_inodes) (done jobs es) stored
   pub committed : (h : Stored → ℕ) → worth h b.state ≡ worth h b.opening + total h stored

@@ -1,5 +1,4 @@
 -- An operation on an active snapshot of a store, with the charge that it needs.
--- Cited by `run`.
 use Rattle.std.specs.Prelude.{◌≡◌, ◌⊎◌, ◌∷◌, false, Option, Some, None, Result, Ok, Err, IfErr}
 use Rattle.snap_path.specs.Memory.{no_memory}
 use Rattle.snap_layer.specs.Tree.{Tree}

@@ -1,5 +1,6 @@
 // Jobs, their ends, and what is told of them.
-ghost use Rattle.snap_writers.specs.Jobs.{IsWorked};
+ghost use Rattle.std.specs.Prelude.{ℕ, Bool};
+ghost use Rattle.snap_writers.specs.Jobs.{HasStoppedWorker, IsWorked};
 
 use crate::running::RunError;
 use snap_book::Refusal;
@@ -59,9 +60,13 @@ pub type Ends = Sequence<Ended>;
 
 /// Lets a worker take its next step, or stops it.
 pub trait Gate: Sync {
+    // What the gate may answer to the worker at the step.
+    ghost answers: { Self → ℕ → ℕ → Bool → Type 0 };
+
     /// Whether the worker, counted from 1, may take the step, counted from 1 over all its jobs. The greatest
     /// number stands for all later steps too. A gate may wait.
-    fn pass(&self, worker: u32, step: u32) -> bool;
+    fn pass(&self, worker: u32, step: u32) -> bool
+        ensures { answers self.now worker step result };
 }
 
 /// What a worker gives back.
@@ -76,16 +81,17 @@ pub struct Worked {
 }
 
 // What a worker's thread promises of that.
-#[derive(Clone, Copy)]
-pub(crate) struct Works<'a> {
+#[derive(Drop)]
+pub(crate) struct Works<'a, G: Gate> {
+    pub(crate) gate: &'a G,
     pub(crate) jobs: &'a [Job],
     pub(crate) worker: u32,
     pub(crate) workers: u32,
     pub(crate) layer_inodes: u64,
 }
 
-impl<'a> Promise<Worked> for Works<'a> {
-    ghost kept_by = { λ p w. IsWorked p.layer_inodes p.jobs.now p.worker p.workers w };
+impl<'a, G: Gate> Promise<Worked> for Works<'a, G> {
+    ghost kept_by = { λ p w. IsWorked (HasStoppedWorker (G.answers p.gate.now) p.worker) p.layer_inodes p.jobs.now p.worker p.workers w };
 }
 
 /// What came of all jobs.
@@ -105,6 +111,7 @@ pub enum RunFault<N: RoundName> {
     OutOfMemory(Store<N>, NoMemory),
     /// The gate stopped a worker, this one and perhaps later ones. The store is closed.
     GateClosed { worker: u32, report: Report<N> },
-    /// All workers have ended, and the store could not be closed: it comes back with their sessions.
-    NotClosed(NotClosed<N>),
+    /// All workers have ended, and the store could not be closed: it comes back with their sessions, beside one
+    /// end for each job, in their order.
+    NotClosed { ends: Ends, back: NotClosed<N> },
 }

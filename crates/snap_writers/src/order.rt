@@ -1,6 +1,6 @@
 // The ends of all jobs in their order, and the workers' sessions.
-ghost use Rattle.std.specs.Prelude.{◌≡◌, ◌≤◌, ℕ, [], length, IfSome, vec_len, vec_capacity};
-ghost use Rattle.snap_writers.specs.Starting.{AreInOrder, AreWorked, sessions_of};
+ghost use Rattle.std.specs.Prelude.{◌≡◌, ◌≤◌, ◌+◌, ◌-◌, [], false, true, length, All, IfSome, IfNone, Some, slice_get, option_map, vec_len, vec_capacity};
+ghost use Rattle.snap_writers.specs.Jobs.{AreInOrder, Each, jobs_of, sessions_of};
 
 use crate::job::{Ended, Ends, Job, Worked};
 use snap_store::Session;
@@ -8,7 +8,7 @@ use snap_store::Session;
 // The ends of all jobs, in the order of the jobs. The list has room.
 pub(crate) fn in_order(jobs: &[Job], workers: u32, all: &[Worked], ends: Vec<Ended>) -> Ends
     requires workers { 1 ≤ workers }
-    requires worked { (inodes : ℕ) × AreWorked inodes jobs.now workers all.now }
+    requires worked { (length all.now ≡ workers) × Each (λ k w. length w.ends ≡ length (jobs_of jobs.now (k + 1) workers)) 0 all.now }
     requires room { (ends.items ≡ []) × (length jobs.now ≤ vec_capacity ends) }
     ensures { AreInOrder jobs.now workers all.now result }
 {
@@ -29,7 +29,8 @@ pub(crate) fn in_order(jobs: &[Job], workers: u32, all: &[Worked], ends: Vec<End
 // The first worker that the gate stopped, counted from 1.
 pub(crate) fn first_refused(all: &[Worked]) -> Option<u32>
     requires { length all.now ≤ 16 }
-    ensures { IfSome result (λ worker. (1 ≤ worker) × (worker ≤ length all.now)) }
+    ensures none { IfNone result (All (λ w. w.refused ≡ false) all.now) }
+    ensures some { IfSome result (λ worker. (1 ≤ worker) × (worker ≤ length all.now) × (option_map (λ w. w.refused) (slice_get all.now (worker - 1)) ≡ Some true)) }
 {
     let place = all.iter().position(|worked| worked.refused)?;
     Some(place as u32 + 1)

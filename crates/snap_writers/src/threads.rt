@@ -1,9 +1,9 @@
 // The workers, each on a thread of its own.
 ghost use Rattle.std.specs.Prelude.{◌≡◌, ◌≤◌, ℕ, [], IfOk, vec_len, vec_capacity};
 ghost use Rattle.snap_writers.specs.declared.job.Ended.TheVariants.{NoThread};
-ghost use Rattle.snap_writers.specs.Jobs.{IsWorked, jobs_of, unprepared};
+ghost use Rattle.snap_writers.specs.Jobs.{AreWorked, HasStoppedWorker, IsWorked, jobs_of, unprepared};
 ghost use Rattle.snap_writers.specs.Going.{none_run};
-ghost use Rattle.snap_writers.specs.Starting.{AreAssigned, AreStarted, AreWorked};
+ghost use Rattle.snap_writers.specs.Starting.{AreAssigned, AreStarted};
 
 use crate::assignment::Assignment;
 use crate::job::{Ends, Gate, Job, Worked, Works};
@@ -16,15 +16,15 @@ use std::thread::{PromisedHandle, Threads};
 
 // A worker on its thread, or what one gives back that got none.
 #[derive(Drop)]
-enum Started<'a> {
-    There(PromisedHandle<Worked, Works<'a>>),
+enum Started<'a, G: Gate> {
+    There(PromisedHandle<Worked, Works<'a, G>>),
     Threadless(Worked),
 }
 
 // What a worker gives back that got no thread.
 fn without_thread(jobs: &[Job], worker: u32, workers: u32, ends: Ends) -> Worked
     requires { ends ≡ unprepared NoThread (jobs_of jobs.now worker workers) }
-    ensures { (inodes : ℕ) → IsWorked inodes jobs.now worker workers result }
+    ensures { (inodes : ℕ) → IsWorked ⊥ inodes jobs.now worker workers result }
 {
     Worked {
         session: None,
@@ -34,17 +34,18 @@ fn without_thread(jobs: &[Job], worker: u32, workers: u32, ends: Ends) -> Worked
 }
 
 // What the workers gave back, in order, once all have ended.
-fn joined<R: Threads>(
+fn joined<R: Threads, G: Gate>(
     rt: &R,
+    gate: &G,
     jobs: &[Job],
     workers: u32,
     layer_inodes: u64,
-    started: Vec<Started>,
+    started: Vec<Started<G>>,
     all: Vec<Worked>,
 ) -> Vec<Worked>
-    requires started { AreStarted layer_inodes jobs.now workers started.items }
+    requires started { AreStarted gate.now (HasStoppedWorker (G.answers gate.now)) layer_inodes jobs.now workers started.items }
     requires all { (all.items ≡ []) × (workers ≤ vec_capacity all) }
-    ensures { AreWorked layer_inodes jobs.now workers result.items }
+    ensures { AreWorked (HasStoppedWorker (G.answers gate.now)) layer_inodes jobs.now workers result.items }
 {
     let mut all = all;
     for one in started {
@@ -68,7 +69,7 @@ pub(crate) fn all_worked<N: RoundName + Send + Sync, R: Threads + Wait + Sync, G
     assignments: Vec<Assignment>,
 ) -> Result<Vec<Worked>, AllocError>
     requires { AreAssigned jobs.now workers assignments.items }
-    ensures { IfOk result (λ all. AreWorked store.now.opening.layer_inodes jobs.now workers all.items) }
+    ensures { IfOk result (λ all. AreWorked (HasStoppedWorker (G.answers gate.now)) store.now.opening.layer_inodes jobs.now workers all.items) }
 {
     let layer_inodes = store.layer_inodes();
     let mut all = Vec::with_capacity(alloc, assignments.len())?;
@@ -81,7 +82,7 @@ pub(crate) fn all_worked<N: RoundName + Send + Sync, R: Threads + Wait + Sync, G
             requires all { (all.items ≡ []) × (vec_len assignments ≤ vec_capacity all) }
             requires started { (started.items ≡ []) × (vec_len assignments ≤ vec_capacity started) }
             requires layers { layer_inodes ≡ store.now.opening.layer_inodes }
-            ensures { AreWorked layer_inodes jobs.entry.now workers result.items }
+            ensures { AreWorked (HasStoppedWorker (G.answers gate.entry.now)) layer_inodes jobs.entry.now workers result.items }
         {
             for assignment in assignments {
                 let Assignment {
@@ -90,6 +91,7 @@ pub(crate) fn all_worked<N: RoundName + Send + Sync, R: Threads + Wait + Sync, G
                     threadless,
                 } = assignment;
                 let promise = Works {
+                    gate,
                     jobs,
                     worker,
                     workers,
@@ -100,7 +102,7 @@ pub(crate) fn all_worked<N: RoundName + Send + Sync, R: Threads + Wait + Sync, G
                     move || -> Worked
                         requires worker { (1 ≤ worker) × (worker ≤ workers) }
                         requires ends { ends ≡ none_run (jobs_of jobs.now worker workers) }
-                        ensures { IsWorked store.entry.now.opening.layer_inodes jobs.entry.now worker workers result }
+                        ensures { IsWorked (HasStoppedWorker (G.answers gate.entry.now) worker) store.entry.now.opening.layer_inodes jobs.entry.now worker workers result }
                     { run_worker(rt, alloc, store, jobs, worker, workers, gate, ends) },
                 ) {
                     Ok(handle) => {
@@ -113,7 +115,7 @@ pub(crate) fn all_worked<N: RoundName + Send + Sync, R: Threads + Wait + Sync, G
                 };
                 started.push_reserved(one);
             }
-            joined(rt, jobs, workers, layer_inodes, started, all)
+            joined(rt, gate, jobs, workers, layer_inodes, started, all)
         },
     ))
 }

@@ -1,17 +1,18 @@
 // A worker on its way through its jobs.
-ghost use Rattle.std.specs.Prelude.{◌≡◌, ◌<◌, ◌≤◌, [], ◌∷◌, true, OnOk, IfOk, IfErr, Ok, Some};
+ghost use Rattle.std.specs.Prelude.{◌≡◌, ◌<◌, ◌≤◌, ◌++◌, ℕ, List, [], ◌∷◌, false, true, OnOk, IfOk, IfErr, Ok, None, Some};
 ghost use Rattle.snap_usage.specs.Counted.{count_of};
 ghost use Rattle.snap_upper.specs.After.{after};
-ghost use Rattle.snap_writers.specs.Run.{IsSameSnapshot};
 ghost use Rattle.snap_call.specs.Journal.{call_entry};
 ghost use Rattle.snap_call.specs.declared.call.Call.TheVariants as calls;
-ghost use Rattle.snap_call.specs.declared.call.Given.TheVariants.{Nothing};
+ghost use Rattle.snap_call.specs.declared.call.Given.TheVariants.{Layer, Nothing};
+ghost use Rattle.snap_call.specs.declared.entry.Entry.{Entry as EntryValue};
 ghost use Rattle.snap_call.specs.declared.reply.Reply.TheVariants as replies;
-ghost use Rattle.snap_writers.specs.declared.job.Job.{Job as JobValue};
-ghost use Rattle.snap_writers.specs.declared.job.End.TheVariants.{Commit};
+ghost use Rattle.snap_book.specs.Active.{fresh};
+ghost use Rattle.snap_book.specs.Held.{share_of};
 ghost use Rattle.snap_writers.specs.declared.job.Ended.TheVariants as ended;
-ghost use Rattle.snap_writers.specs.Jobs.{IsErrorOf, IsWorked, all_after, jobs_of, unprepared};
-ghost use Rattle.snap_writers.specs.Going.{GoesOn, HasRunJob, IsFresh, IsReadyToEnd, IsStopOf, end_or, commit_granted, none_run};
+ghost use Rattle.snap_writers.specs.Jobs.{HasStoppedWorker, IsWorked, all_after, discard_entry, jobs_of, prepare_call, prepared_entry, refused_entry, unprepared};
+ghost use Rattle.snap_writers.specs.Run.{IsSameSnapshot};
+ghost use Rattle.snap_writers.specs.Going.{HasEnded, HasOperated, HasRunJob, HasTried, IsFresh, IsStopOf, Went, none_run};
 
 use crate::job::{End, Ended, Ends, Gate, Job, Worked};
 use crate::running::{RunError, run};
@@ -23,15 +24,21 @@ use snap_usage::Usage;
 use std::alloc::Global;
 use std::sync::Wait;
 
-// A worker with its session. It has asked the gate for so many steps, and may make the last of them where the
-// gate let it pass and it is not made yet.
+// What stays as it is while a worker goes on.
 #[derive(Drop)]
-pub(crate) struct Worker<'a, N: RoundName, R: Wait, G: Gate> {
+pub(crate) struct Fixed<'a, N: RoundName, R: Wait, G: Gate> {
     pub(crate) rt: &'a R,
     pub(crate) alloc: Global,
     pub(crate) store: &'a Store<N>,
     pub(crate) gate: &'a G,
     pub(crate) number: u32,
+}
+
+// A worker with its session. It has asked the gate for so many steps, and may make the last of them where the
+// gate let it pass and it is not made yet.
+#[derive(Drop)]
+pub(crate) struct Worker<'a, N: RoundName, R: Wait, G: Gate> {
+    pub(crate) fixed: Fixed<'a, N, R, G>,
     pub(crate) steps: u32,
     pub(crate) may_step: bool,
     pub(crate) session: Session,
@@ -48,30 +55,31 @@ impl<'a, N: RoundName, R: Wait, G: Gate> Worker<'a, N, R, G> {
     fn passes(&mut self) -> bool
         ensures same { self.new.session ≡ self.old.session }
         ensures may { self.new.may_step ≡ result }
-        ensures store { self.new.store ≡ self.old.store }
+        ensures fixed { self.new.fixed ≡ self.old.fixed }
+        ensures stopped { result ≡ false → HasStoppedWorker (G.answers self.old.fixed.gate.now) self.old.fixed.number }
     {
         self.steps = self.steps.saturating_add(1);
-        self.may_step = self.gate.pass(self.number, self.steps);
+        self.may_step = self.fixed.gate.pass(self.fixed.number, self.steps);
         self.may_step
     }
 
     // Prepares the job's snapshot, with room on the tape for its discard.
     fn prepare(&mut self, job: &Job) -> Result<Active<N>, Refusal>
         requires may { self.old.may_step ≡ true }
-        ensures fresh { IfOk result (λ a. IsFresh self.old.store.now.opening.layer_inodes self.new.session.tape job.now a) }
-        ensures store { self.new.store ≡ self.old.store }
-        ensures goes { GoesOn job.now self.old.session self.new.session [] }
+        ensures fresh { IfOk result (λ a. IsFresh self.old.fixed.store.now.opening.layer_inodes self.old.session self.new.session job.now a) }
+        ensures refused { IfErr result (λ why. Went self.old.session self.new.session (refused_entry self.old.session.number (prepare_call job.now) Nothing why)) }
+        ensures fixed { self.new.fixed ≡ self.old.fixed }
         ensures room { OnOk result (0 < self.new.session.spare) }
     {
         self.may_step = false;
         self.session.reserve(2)?;
-        self.store.prepare(
-            self.rt,
+        self.fixed.store.prepare(
+            self.fixed.rt,
             &mut self.session,
             job.namespace.as_str(),
             job.key.as_str(),
             job.parent.as_str(),
-            &Labels::new(self.alloc),
+            &Labels::new(self.fixed.alloc),
         )
     }
 
@@ -80,19 +88,18 @@ impl<'a, N: RoundName, R: Wait, G: Gate> Worker<'a, N, R, G> {
         requires room { 0 < self.old.session.spare }
         requires may { self.old.may_step ≡ true }
         ensures done { OnOk result (after op.now active.old.layer active.old.lowers ≡ Ok active.new.layer) }
-        ensures failed { IfErr result (λ error. IsErrorOf error op.now active.old.layer active.old.lowers) }
+        ensures tried { HasTried job.now self.old.session self.new.session active.old op.now result }
         ensures same { IsSameSnapshot active.old active.new }
-        ensures goes { GoesOn job.now self.old.session self.new.session [] }
         ensures room { 0 < self.new.session.spare }
-        ensures store { self.new.store ≡ self.old.store }
+        ensures fixed { self.new.fixed ≡ self.old.fixed }
     {
         self.may_step = false;
         if let Err(refused) = self.session.reserve(2) {
             return Err(RunError::Book(refused.into()));
         }
         run(
-            self.store,
-            self.rt,
+            self.fixed.store,
+            self.fixed.rt,
             &mut self.session,
             active,
             op,
@@ -104,11 +111,12 @@ impl<'a, N: RoundName, R: Wait, G: Gate> Worker<'a, N, R, G> {
     fn operate_all(&mut self, active: &mut Active<N>, job: &Job) -> Result<(), Stop>
         requires { 0 < self.old.session.spare }
         ensures done { OnOk result (all_after job.now.ops active.old.layer active.old.lowers ≡ Ok active.new.layer) }
-        ensures failed { IfErr result (λ stop. IsStopOf job.now.ops active.old.layer active.old.lowers stop) }
+        ensures all { OnOk result (HasOperated job.now active.old self.old.session self.new.session []) }
+        ensures stopped { IfErr result (λ stop. (entry : List EntryValue) × HasOperated job.now active.old self.old.session self.new.session entry
+            × IsStopOf (HasStoppedWorker (G.answers self.old.fixed.gate.now) self.old.fixed.number) self.old.session.number job.now active.old stop entry) }
         ensures same { IsSameSnapshot active.old active.new }
-        ensures goes { GoesOn job.now self.old.session self.new.session [] }
         ensures room { 0 < self.new.session.spare }
-        ensures store { self.new.store ≡ self.old.store }
+        ensures fixed { self.new.fixed ≡ self.old.fixed }
     {
         let mut place = 0;
         for op in job.ops.as_slice() {
@@ -124,29 +132,32 @@ impl<'a, N: RoundName, R: Wait, G: Gate> Worker<'a, N, R, G> {
         Ok(())
     }
 
-    // Ends the snapshot without a commit, for whichever job it is of.
+    // Ends the snapshot without a commit.
     fn discard(&mut self, held: Held<N>)
         requires { 0 < self.old.session.spare }
-        ensures goes { (j : JobValue) → GoesOn j self.old.session self.new.session [] }
-        ensures store { self.new.store ≡ self.old.store }
+        ensures went { Went self.old.session self.new.session (discard_entry self.old.session.number (share_of held).slot (share_of held).id (share_of held).usage ∷ []) }
+        ensures fixed { self.new.fixed ≡ self.old.fixed }
     {
-        self.store.discard(self.rt, &mut self.session, held);
+        self.fixed
+            .store
+            .discard(self.fixed.rt, &mut self.session, held);
     }
 
     // Commits the snapshot as the job says, or discards it and tells why.
     fn commit(
         &mut self,
         active: Active<N>,
-        job: &Job,
         name: &Text,
         lease: &Option<Text>,
     ) -> Result<Usage, Refusal>
         requires room { 0 < self.old.session.spare }
-        requires end { job.now.end ≡ Commit name.now lease.now }
-        ensures granted { IfOk result (λ usage. GoesOn job.now self.old.session self.new.session (commit_granted active name.now lease.now ∷ [])) }
+        ensures granted { IfOk result (λ usage. Went self.old.session self.new.session
+            (call_entry self.old.session.number (calls.Commit active.share.slot active.share.id name.now lease.now None) (Layer active.layer) (replies.Committed active.share.id usage) ∷ [])) }
         ensures count { IfOk result (λ usage. usage ≡ count_of active.layer) }
-        ensures refused { IfErr result (λ _. GoesOn job.now self.old.session self.new.session []) }
-        ensures store { self.new.store ≡ self.old.store }
+        ensures refused { IfErr result (λ why. Went self.old.session self.new.session
+            (refused_entry self.old.session.number (calls.Commit active.share.slot active.share.id name.now lease.now None) (Layer active.layer) why
+            ++ discard_entry self.old.session.number active.share.slot active.share.id active.share.usage ∷ [])) }
+        ensures fixed { self.new.fixed ≡ self.old.fixed }
     {
         let sealed = match active.seal() {
             Ok(sealed) => sealed,
@@ -159,8 +170,8 @@ impl<'a, N: RoundName, R: Wait, G: Gate> Worker<'a, N, R, G> {
             self.discard(Held::Sealed(sealed));
             return Err(refused.into());
         }
-        match self.store.commit(
-            self.rt,
+        match self.fixed.store.commit(
+            self.fixed.rt,
             &mut self.session,
             name.as_str(),
             lease,
@@ -179,15 +190,14 @@ impl<'a, N: RoundName, R: Wait, G: Gate> Worker<'a, N, R, G> {
     fn end(&mut self, active: Active<N>, job: &Job) -> Ended
         requires room { 0 < self.old.session.spare }
         requires may { self.old.may_step ≡ true }
-        requires ready { IsReadyToEnd self.old.store.now.opening.layer_inodes self.old.session.tape job.now active }
-        ensures run { HasRunJob self.old.store.now.opening.layer_inodes self.old.session self.new.session job.now result }
-        ensures store { self.new.store ≡ self.old.store }
+        ensures ended { HasEnded job.now self.old.session self.new.session active result }
+        ensures fixed { self.new.fixed ≡ self.old.fixed }
     {
         self.may_step = false;
         match &job.end {
             End::Commit { name, lease } => {
                 let id = active.id();
-                match self.commit(active, job, name, lease) {
+                match self.commit(active, name, lease) {
                     Ok(usage) => Ended::Committed { id, usage },
                     Err(why) => Ended::NotCommitted(why),
                 }
@@ -202,9 +212,11 @@ impl<'a, N: RoundName, R: Wait, G: Gate> Worker<'a, N, R, G> {
     // Does the operations on the job's snapshot and gives it its end; nothing where the gate stops it.
     fn work(&mut self, active: Active<N>, job: &Job) -> Option<Ended>
         requires room { 0 < self.old.session.spare }
-        requires fresh { IsFresh self.old.store.now.opening.layer_inodes self.old.session.tape job.now active }
-        ensures run { HasRunJob self.old.store.now.opening.layer_inodes self.old.session self.new.session job.now (end_or result) }
-        ensures store { self.new.store ≡ self.old.store }
+        requires base { job.now.parent ≡ [] → active.lowers ≡ [] }
+        requires fresh { active.layer ≡ fresh self.old.fixed.store.now.opening.layer_inodes active.lowers }
+        ensures run { (chain : List ℕ) → HasRunJob (HasStoppedWorker (G.answers self.old.fixed.gate.now) self.old.fixed.number) self.old.fixed.store.now.opening.layer_inodes
+            self.old.session self.new.session job.now (prepared_entry self.old.session.number job.now active.share.slot active.share.id chain ∷ []) result }
+        ensures fixed { self.new.fixed ≡ self.old.fixed }
     {
         let mut active = active;
         match self.operate_all(&mut active, job) {
@@ -227,8 +239,9 @@ impl<'a, N: RoundName, R: Wait, G: Gate> Worker<'a, N, R, G> {
 
     // Goes through a job, and tells how it ended; nothing where the gate stops it.
     pub(crate) fn run_job(&mut self, job: &Job) -> Option<Ended>
-        ensures run { HasRunJob self.old.store.now.opening.layer_inodes self.old.session self.new.session job.now (end_or result) }
-        ensures store { self.new.store ≡ self.old.store }
+        ensures run { HasRunJob (HasStoppedWorker (G.answers self.old.fixed.gate.now) self.old.fixed.number) self.old.fixed.store.now.opening.layer_inodes
+            self.old.session self.new.session job.now [] result }
+        ensures fixed { self.new.fixed ≡ self.old.fixed }
     {
         if !self.passes() {
             return None;
@@ -240,16 +253,16 @@ impl<'a, N: RoundName, R: Wait, G: Gate> Worker<'a, N, R, G> {
     }
 
     // Goes through the jobs that are the worker's own.
-    fn run_all(self, jobs: &[Job], worker: u32, workers: u32, ends: Ends) -> Worked
-        requires worker { (1 ≤ worker) × (worker ≤ workers) }
-        requires ends { ends ≡ none_run (jobs_of jobs.now worker workers) }
+    fn run_all(self, jobs: &[Job], workers: u32, ends: Ends) -> Worked
+        requires worker { (1 ≤ self.fixed.number) × (self.fixed.number ≤ workers) }
+        requires ends { ends ≡ none_run (jobs_of jobs.now self.fixed.number workers) }
         requires session { self.session.tape ≡ call_entry self.session.number calls.Session Nothing replies.Opened ∷ [] }
-        ensures { IsWorked self.entry.store.now.opening.layer_inodes jobs.now worker workers result }
+        ensures { IsWorked (HasStoppedWorker (G.answers self.entry.fixed.gate.now) self.entry.fixed.number) self.entry.fixed.store.now.opening.layer_inodes jobs.now self.entry.fixed.number workers result }
     {
         let mut this = self;
         let mut ends = ends;
         let mut place = 0;
-        let mut skip = worker - 1;
+        let mut skip = this.fixed.number - 1;
         for job in jobs {
             if skip > 0 {
                 skip -= 1;
@@ -268,6 +281,7 @@ impl<'a, N: RoundName, R: Wait, G: Gate> Worker<'a, N, R, G> {
     fn give_back(self, ends: Ends, refused: bool) -> Worked
         ensures session { result.session ≡ Some self.entry.session }
         ensures ends { result.ends ≡ ends }
+        ensures refused { result.refused ≡ refused }
     {
         Worked {
             session: Some(self.session),
@@ -310,21 +324,24 @@ pub fn run_worker<N: RoundName, R: Wait, G: Gate>(
 ) -> Worked
     requires worker { (1 ≤ worker) × (worker ≤ workers) }
     requires ends { ends ≡ none_run (jobs_of jobs.now worker workers) }
-    ensures { IsWorked store.now.opening.layer_inodes jobs.now worker workers result }
+    ensures { IsWorked (HasStoppedWorker (G.answers gate.now) worker) store.now.opening.layer_inodes jobs.now worker workers result }
 {
     match store.session(rt) {
         Ok(session) => {
-            let work = Worker {
+            let fixed = Fixed {
                 rt,
                 alloc,
                 store,
                 gate,
                 number: worker,
+            };
+            let work = Worker {
+                fixed,
                 steps: 0,
                 may_step: false,
                 session,
             };
-            work.run_all(jobs, worker, workers, ends)
+            work.run_all(jobs, workers, ends)
         }
         Err(why) => Worked {
             session: None,

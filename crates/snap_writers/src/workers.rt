@@ -1,6 +1,6 @@
 // All jobs, by workers on threads of their own.
 ghost use Rattle.std.specs.Prelude.{◌≡◌, ◌≤◌, [], length, IfOk, IfErr, OnOk, vec_capacity};
-ghost use Rattle.snap_writers.specs.Jobs.{IsReport};
+ghost use Rattle.snap_writers.specs.Jobs.{HasStoppedWorker, IsReport};
 ghost use Rattle.snap_writers.specs.Starting.{AreAssigned, IsCount, IsFault};
 
 use crate::assignment::{Assignment, assignments};
@@ -43,8 +43,8 @@ pub const MAX_WORKERS: u32 = 16;
 ///
 /// The first of these that holds: `BadWorkers` where there are not 1 to 16 of them; `OutOfMemory` where memory
 /// is refused before a thread is started; `NotClosed` where the store can't be closed, as where a session is
-/// kept that was opened before, or a snapshot of one is open; `GateClosed` where the gate stopped a worker,
-/// with the first of them. The first two give the store back as it was.
+/// kept that was opened before, or a snapshot of one is open, with the ends of all jobs; `GateClosed` where the
+/// gate stopped a worker, with the first of them. The first two give the store back as it was.
 ///
 /// It waits for the workers, which wait for the store's lock and for the gate. The cost is that of the jobs'
 /// calls and operations, a pass over all jobs for each worker, and [`Store::close`].
@@ -56,11 +56,11 @@ pub fn run_jobs<N: RoundName + Send + Sync, R: Threads + Wait + Sync, G: Gate>(
     workers: u32,
     gate: &G,
 ) -> Result<Report<N>, RunFault<N>>
-    // Ok: all that is owed for all jobs, in one record.
-    ensures report { IfOk result (λ report. IsReport store jobs.now report.ends report.closed) }
+    // Ok: all that is owed for all jobs, in one record, where the gate has stopped no worker.
+    ensures report { IfOk result (λ report. IsReport (λ worker. ⊥) store jobs.now workers report.ends report.closed) }
     ensures workers { OnOk result (IsCount workers) }
     // Err: why, and what is given back.
-    ensures fault { IfErr result (λ fault. IsFault store jobs.now workers fault) }
+    ensures fault { IfErr result (λ fault. IsFault (HasStoppedWorker (G.answers gate.now)) store jobs.now workers fault) }
 {
     if workers == 0 || workers > MAX_WORKERS {
         return Err(RunFault::BadWorkers(store));
@@ -88,6 +88,6 @@ pub fn run_jobs<N: RoundName + Send + Sync, R: Threads + Wait + Sync, G: Gate>(
                 Some(worker) => Err(RunFault::GateClosed { worker, report }),
             }
         }
-        Err(back) => Err(RunFault::NotClosed(back)),
+        Err(back) => Err(RunFault::NotClosed { ends, back }),
     }
 }

@@ -6,11 +6,11 @@ use Rattle.snap_layer.specs.declared.node.Body.TheVariants as body_kinds
 use Rattle.snap_layer.specs.declared.node.Node.TheVariants as node_kinds
 use Rattle.snap_layer.specs.Tree.{Tree}
 use Rattle.snap_layer.specs.Edits.{root_only, with_new}
-use Rattle.snap_merge.specs.Taken.{parts_below, taken}
+use Rattle.snap_merge.specs.Taken.{parts_below, disk_usage}
 use Rattle.snap_diff.specs.declared.change.ChangeKind.TheVariants.{Changed}
 use Rattle.snap_diff.specs.Changes.{changes, changes_below, page}
 
-pub root_taken : taken (root_only 493 1 ∷ []) [] ≡ Ok (record { blocks = 1; inodes = 1 })
+pub root_taken : disk_usage (root_only 493 1 ∷ []) [] ≡ Ok (record { blocks = 1; inodes = 1 })
 unfolding parts_below
 root_taken = refl
 

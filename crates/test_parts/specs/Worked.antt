@@ -1,5 +1,4 @@
 -- A worked round: a session prepares `k` in the namespace `a`, for which `a` is charged 1/1, and charges it 4/3 in all.
--- Cited by test functions alone.
 use Rattle.std.specs.Prelude.{ℕ, List, [], ◌∷◌}
 use Rattle.snap_usage.specs.declared.usage.Usage.{Usage}
 use Rattle.snap_call.specs.declared.call.Call.TheVariants as calls

@@ -12,6 +12,8 @@ mod layers;
 #[cfg(test)]
 mod leases;
 #[cfg(test)]
+mod logs;
+#[cfg(test)]
 mod merging;
 #[cfg(test)]
 mod mounts;

@@ -19,7 +19,7 @@ use std::process::Abort;
 fn lower<R: Abort>(rt: &R, alloc: Global) -> Shared
     ensures { result ≡ root_only 493 1 }
 {
-    Shared::new(alloc, layer(rt, alloc, DEFAULT_MODE)).expect(rt, "memory for a lower layer")
+    Shared::new(layer(rt, alloc, DEFAULT_MODE)).expect(rt, "memory for a lower layer")
 }
 
 /// A layer with a file of 10 bytes at `/f`, which nobody knows.
@@ -95,7 +95,7 @@ fn a_root_of_another_mode_is_changed(rt: HostRuntime) {
 #[test]
 #[tactic(auto, using(crate::proofs::Counted::unknown_changed))]
 fn a_file_that_nobody_knows_is_changed(rt: HostRuntime) {
-    let lower = Shared::new(rt.alloc(), unknown(&rt, rt.alloc()));
+    let lower = Shared::new(unknown(&rt, rt.alloc()));
     let lowers = [lower.expect(&rt, "memory for a lower layer")];
     let found = changes(rt.alloc(), &unknown(&rt, rt.alloc()), &lowers, None, 64);
     let found = found.expect(&rt, "memory for changes").len();
@@ -105,7 +105,7 @@ fn a_file_that_nobody_knows_is_changed(rt: HostRuntime) {
 #[test]
 #[tactic(auto, using(crate::proofs::Counted::unknown_untouched))]
 fn an_untouched_file_is_not_changed(rt: HostRuntime) {
-    let lower = Shared::new(rt.alloc(), unknown(&rt, rt.alloc()));
+    let lower = Shared::new(unknown(&rt, rt.alloc()));
     let lowers = [lower.expect(&rt, "memory for a lower layer")];
     let top = layer(&rt, rt.alloc(), DEFAULT_MODE);
     let found = changes(rt.alloc(), &top, &lowers, None, 64);

@@ -24,14 +24,16 @@ fn texts_of_paths(rt: HostRuntime) {
     let hidden = is_bad(alloc, "/.a");
     let dots = is_bad(alloc, "/a./..b/...");
     let two_bytes = is_bad(alloc, "/\u{e9}");
-    prove!(!root && !hidden && !dots && !two_bytes);
+    prove!(!root);
+    assert!(rt; !hidden && !dots && !two_bytes);
     let empty = is_bad(alloc, "");
     let relative = is_bad(alloc, "a");
     let closed = is_bad(alloc, "/a/");
     let doubled = is_bad(alloc, "/a//b");
     let above = is_bad(alloc, "/..");
     let nul = is_bad(alloc, "/a\0");
-    prove!(empty && relative && closed && doubled && above && nul);
+    prove!(empty && relative);
+    assert!(rt; closed && doubled && above && nul);
 }
 
 #[test]

@@ -53,7 +53,7 @@ fn made<const N: usize, R: Abort>(
 ) -> Shared {
     let mut made = layer(rt, alloc, DEFAULT_MODE);
     carry_out(rt, alloc, &mut made, lowers, ops);
-    Shared::new(alloc, made).expect(rt, "memory for a layer")
+    Shared::new(made).expect(rt, "memory for a layer")
 }
 
 /// A layer with a whiteout over the lowest one.

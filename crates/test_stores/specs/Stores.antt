@@ -1,5 +1,4 @@
 -- The states of a store that the witnesses begin with.
--- Cited by `opened`, `prepared`, `viewed`, `removed` and others.
 use Rattle.std.specs.Prelude.{[], ◌∷◌, codes}
 use Rattle.snap_call.specs.declared.call.Call.TheVariants as calls
 use Rattle.snap_call.specs.declared.call.Given.TheVariants.{Nothing}

@@ -171,7 +171,7 @@ fn without_slots<N: RoundName + Send + Sync, R: Threads + Wait + Abort + Clock +
     let mut session = new_session(rt, &store);
     let held = prepare_all(rt, alloc, &store, &mut session, "s", 64);
     let back = match run_jobs(rt, alloc, store, jobs, 4, &Steps::<R>::All) {
-        Err(RunFault::NotClosed(back)) => back,
+        Err(RunFault::NotClosed { ends: _, back }) => back,
         _ => panic!(rt; "the store is closed"),
     };
     let (store, mut sessions) = not_closed(rt, alloc, Err(back), "snapshots are open", "s", 64);

@@ -87,7 +87,7 @@ impl Lists {
 
     fn commit(&mut self) -> Result<(), AllocError> {
         if let Some(layer) = self.uppers.pop() {
-            match Shared::new(self.alloc, layer) {
+            match Shared::new(layer) {
                 Ok(shared) => self.lowers.insert(0, shared)?,
                 Err((no_memory, _)) => return Err(no_memory.into()),
             }

@@ -114,13 +114,19 @@ pub(crate) fn is_target(target: &[u8]) -> bool
 
 /// What the layer answers of a path.
 pub(crate) fn standing(layer: &Layer, path: &Path) -> Standing {
+    let has_place = layer.has_place(path);
+    let inodes_without = if has_place {
+        Some(layer.inodes_without(path))
+    } else {
+        None
+    };
     Standing {
         at: layer.at(path),
         has_parent: layer.has_parent(path),
         has_room: layer.has_room(path),
-        has_place: layer.has_place(path),
+        has_place,
         is_takeable: layer.is_takeable(path),
-        inodes_without: layer.inodes_without(path),
+        inodes_without,
     }
 }
 

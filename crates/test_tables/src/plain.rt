@@ -25,7 +25,7 @@ pub(crate) struct Standing {
     pub(crate) has_room: bool,
     pub(crate) has_place: bool,
     pub(crate) is_takeable: bool,
-    pub(crate) inodes_without: usize,
+    pub(crate) inodes_without: Option<usize>,
 }
 
 impl Plain {
@@ -150,18 +150,24 @@ impl Plain {
                 has_whiteouts_alone = false;
             }
         }
+        let has_place = has_parent && has_whiteouts_alone;
+        let inodes_without = if has_place {
+            Some(self.inodes_without(path))
+        } else {
+            None
+        };
         Standing {
             at,
             has_parent,
             has_room: has_parent && matches!(at, None | Some(Node::Whiteout)),
-            has_place: has_parent && has_whiteouts_alone,
+            has_place,
             is_takeable: names > 0 && at.is_some() && has_whiteouts_alone,
-            inodes_without: self.inodes_without(path),
+            inodes_without,
         }
     }
 
-    /// The inodes that are left where what stands at the path and below it is taken. A file or symlink
-    /// goes where it stands at the path, and has no other name.
+    /// The inodes that are left where what stands at the path and the whiteouts below it are taken. A file or symlink
+    /// goes where it has no other name.
     pub(crate) fn inodes_without(&self, path: &Path) -> usize {
         let mut left = self.bodies.len();
         for (other, node) in &self.entries {

@@ -1,16 +1,19 @@
 // What is read of a table entry by entry.
-ghost use Rattle.std.specs.Prelude.{[], ◌≡◌, ◌∷◌, ◌++◌, ◌↔◌, ◌<◌, ◌≤◌, ◌+◌, ℕ, List, IfOk, IsOk, IsSome, IsTrue, count_by, length, take};
+ghost use Rattle.std.specs.Prelude.{[], ◌≡◌, ◌∷◌, ◌++◌, ◌↔◌, ◌<◌, ◌≤◌, ◌+◌, ◌^◌, ℕ, List, IfOk, IsOk, IsSome, IsTrue, OnOk, cond, count_by, length, take};
+ghost use Rattle.std.specs.BTreeMap.{is_at};
 ghost use Rattle.std.specs.List.{list_all, sum_by};
 ghost use Rattle.std.specs.List.Sorted.{IsStrictlySortedBy};
 ghost use Rattle.std.specs.Map.{keys_of, values_of};
+ghost use Rattle.std.specs.Ordering.{nat_cmp};
 ghost use Rattle.snap_path.specs.Limits.{most_path_bytes};
 ghost use Rattle.snap_path.specs.Text.{Names, text_of, text_below};
 ghost use Rattle.snap_layer.specs.Tree.{Entries, at, has_number, is_dir, is_whiteout, names_below, IsDirAt};
 ghost use Rattle.snap_layer.specs.Counts.{body_blocks, dir_count, name_count, whiteout_count};
 ghost use Rattle.snap_layer.specs.Edits.{bodies_unnamed, inside, outside, IsFree};
-ghost use Rattle.snap_layer.specs.Ended.{ended};
+ghost use Rattle.snap_layer.specs.Ended.{ended, met_of, AreMet};
+ghost use Rattle.snap_layer.specs.Layers.{IsLayer};
 ghost use Rattle.snap_layer.specs.Totals.{path_count};
-ghost use Rattle.snap_layer.specs.Walk.{node_at, seen, walk, entry_at};
+ghost use Rattle.snap_layer.specs.Walk.{node_at, node_shown, walk, entry_at};
 ghost use Rattle.snap_layer.specs.Rows.{name_cmp, items_in, own, targets_whiteout, is_text_within};
 
 use super::super::inode::{Inode, Target};
@@ -133,12 +136,27 @@ fn names_of_rows<const ROOM: usize>(
     Ok(names)
 }
 
+/// Counts one more name of the file number, and gives how many have come.
+fn meet(met: &mut BTreeMap<u32, usize>, number: u32) -> Result<usize, AllocError>
+    requires { met_of met.old.entries number + 1 < 2 ^ 64 }
+    ensures ok { IfOk result (λ n. n ≡ met_of met.old.entries number + 1) }
+    ensures met { OnOk result ((k : ℕ) → met_of met.new.entries k ≡ cond (is_at (nat_cmp number) k) (met_of met.old.entries number + 1) (met_of met.old.entries k)) }
+{
+    if let Some(names) = met.get_mut(&number) {
+        *names += 1;
+        return Ok(*names);
+    }
+    met.insert(number, 1)?;
+    Ok(1)
+}
+
 impl Table {
     /// The walk through what stands below the path. It has room for few inodes on the way, and takes memory for more.
     fn below<'a>(&'a self, front: &'a [Name]) -> Rows<'a, FEW_FRAMES>
         ensures front { result.front ≡ front.now }
         ensures path { result.path ≡ front.now }
         ensures rest { inside front.now self.now.entries ≡ own front.now (at self.now front.now) ++ result.rest }
+        ensures layer { IsLayer self.now }
     {
         Rows::below(self.alloc, &self.slots, self.root, front)
     }
@@ -148,6 +166,7 @@ impl Table {
         ensures front { result.front ≡ front.now }
         ensures path { result.path ≡ front.now }
         ensures rest { inside front.now self.now.entries ≡ own front.now (at self.now front.now) ++ result.rest }
+        ensures layer { IsLayer self.now }
     {
         Rows::below(self.alloc, &self.slots, self.root, front)
     }
@@ -163,10 +182,10 @@ impl Table {
     /// it is a directory is there a walk.
     pub(crate) fn tally_inside(&self, front: &[Name], node: Option<Node>) -> (usize, usize)
         requires node { node ≡ at self.now front.now }
+        requires layer { IsLayer self.now }
         ensures dirs { result.0 ≡ count_by is_dir (values_of (inside front.now self.now.entries)) }
         ensures whiteouts { result.1 ≡ count_by is_whiteout (values_of (inside front.now self.now.entries)) }
     {
-        let _ = self.next_number();
         if !is_directory(node) {
             return counts_of(node);
         }
@@ -203,12 +222,12 @@ impl Table {
         front: &[Name],
         rows: &mut Rows<'_, ROOM>,
     ) -> Result<(usize, usize), AllocError>
-        requires { inside front.now self.now.entries ≡ own front.now (at self.now front.now) ++ rows.old.rest }
+        requires rows { inside front.now self.now.entries ≡ own front.now (at self.now front.now) ++ rows.old.rest }
+        requires layer { IsLayer self.now }
         ensures dirs { IfOk result (λ n. n.0 ≡ count_by is_dir (values_of (inside front.now self.now.entries))) }
         ensures whiteouts { IfOk result (λ n. n.1 ≡ count_by is_whiteout (values_of (inside front.now self.now.entries))) }
         ensures sure { 2048 ≤ ROOM → IsOk result }
     {
-        let _ = self.next_number();
         let (mut dirs, mut whiteouts) = counts_of(self.node_at(front));
         while let Some(row) = rows.try_next()? {
             dirs += usize::from(row.node.is_dir());
@@ -234,7 +253,6 @@ impl Table {
         requires { IsSome (at self.now front.now) }
         ensures { IfOk result (λ paths. paths.items ≡ keys_of (inside front.now self.now.entries)) }
     {
-        let _ = self.next_number();
         let mut paths = Vec::new(self.alloc);
         let mut last = front.clone()?;
         let mut rows = self.below(front.names());
@@ -252,7 +270,6 @@ impl Table {
     fn names_among(&self, front: &[Name], number: u32, many: usize) -> usize
         ensures { (rest : Entries) → inside front.now self.now.entries ≡ own front.now (at self.now front.now) ++ rest → result ≡ name_count number (take many rest) }
     {
-        let _ = self.next_number();
         if let Ok(names) = names_of_rows(number, many, &mut self.below(front)) {
             return names;
         }
@@ -265,7 +282,6 @@ impl Table {
     fn names_among_all(&self, front: &[Name], number: u32, many: usize) -> usize
         ensures { (rest : Entries) → inside front.now self.now.entries ≡ own front.now (at self.now front.now) ++ rest → result ≡ name_count number (take many rest) }
     {
-        let _ = self.next_number();
         match names_of_rows(number, many, &mut self.all_below(front)) {
             Ok(names) => names,
             Err(_) => unreachable!(),
@@ -291,24 +307,66 @@ impl Table {
         }
     }
 
+    /// The inode and the blocks of the file or symlink whose last name the entry is. The counts are of the names that
+    /// came before, of files with several; this name is counted too.
+    fn ended_by(
+        &self,
+        node: Node,
+        met: &mut BTreeMap<u32, usize>,
+    ) -> Result<(usize, u64), AllocError>
+        requires there { (pre : Entries) × (q : Names) × AreMet self.now pre met.old.entries × ((k : ℕ) → name_count k (pre ++ (q, node) ∷ []) ≤ name_count k self.now.entries) }
+        ensures ended { (pre : Entries) (q : Names) → AreMet self.now pre met.old.entries → ((k : ℕ) → name_count k (pre ++ (q, node) ∷ []) ≤ name_count k self.now.entries) → IfOk result (λ n. n ≡ ended self.now node (pre ++ (q, node) ∷ [])) }
+        ensures met { (pre : Entries) (q : Names) → AreMet self.now pre met.old.entries → OnOk result (AreMet self.now (pre ++ (q, node) ∷ []) met.new.entries) }
+    {
+        let Some(number) = node.number() else {
+            return Ok((0, 0));
+        };
+        let links = self.link_count(number);
+        if links > 1 && meet(met, number)? != links {
+            return Ok((0, 0));
+        }
+        match self.body(number) {
+            Some(body) => Ok((1, body.blocks())),
+            None => Ok((0, 0)),
+        }
+    }
+
     /// The inodes and the blocks of the files and symlinks that have all their names below the directory. The bound is
     /// one on the number of paths.
     ///
-    /// Where a walk is refused memory, it begins again with room for all. Cost: the number of paths below it times the
-    /// logarithm of a directory's entries, once more for each name there of a file that has several.
+    /// It takes memory for the walk and for a count of each file with several names there; it does without where that
+    /// is refused. Cost: the number of paths below it times the logarithm of a directory's entries and of these files;
+    /// where memory is refused, once more for each name there of a file that has several.
     pub(crate) fn ended_below(&self, front: &[Name], bound: usize) -> (usize, u64)
         requires dir { IsDirAt (at self.now front.now) }
         requires few { path_count self.now ≤ bound }
         ensures inodes { result.0 ≡ length (bodies_unnamed (outside front.now self.now.entries) self.now.bodies) }
         ensures blocks { result.1 ≡ sum_by body_blocks (values_of (bodies_unnamed (outside front.now self.now.entries) self.now.bodies)) }
     {
-        if let Ok(ended) = self.ended_rows(front, bound, &mut self.below(front)) {
+        if let Ok(ended) = self.ended_rows(front) {
             return ended;
         }
         self.ended_all(front, bound)
     }
 
-    /// The same, by a walk with room for all.
+    /// The same, by one walk with counts.
+    fn ended_rows(&self, front: &[Name]) -> Result<(usize, u64), AllocError>
+        requires { IsDirAt (at self.now front.now) }
+        ensures inodes { IfOk result (λ n. n.0 ≡ length (bodies_unnamed (outside front.now self.now.entries) self.now.bodies)) }
+        ensures blocks { IfOk result (λ n. n.1 ≡ sum_by body_blocks (values_of (bodies_unnamed (outside front.now self.now.entries) self.now.bodies))) }
+    {
+        let mut met = BTreeMap::new(self.alloc);
+        let mut rows = self.below(front);
+        let (mut inodes, mut blocks) = (0, 0);
+        while let Some(row) = rows.try_next()? {
+            let (file, freed) = self.ended_by(row.node, &mut met)?;
+            inodes += file;
+            blocks += freed;
+        }
+        Ok((inodes, blocks))
+    }
+
+    /// The same without memory: by a walk with room for all, and a walk to each name of a file that has several.
     #[cold]
     #[inline(never)]
     fn ended_all(&self, front: &[Name], bound: usize) -> (usize, u64)
@@ -317,35 +375,15 @@ impl Table {
         ensures inodes { result.0 ≡ length (bodies_unnamed (outside front.now self.now.entries) self.now.bodies) }
         ensures blocks { result.1 ≡ sum_by body_blocks (values_of (bodies_unnamed (outside front.now self.now.entries) self.now.bodies)) }
     {
-        match self.ended_rows(front, bound, &mut self.all_below(front)) {
-            Ok(ended) => ended,
-            Err(_) => unreachable!(),
-        }
-    }
-
-    /// The same, by the walk.
-    fn ended_rows<const ROOM: usize>(
-        &self,
-        front: &[Name],
-        bound: usize,
-        rows: &mut Rows<'_, ROOM>,
-    ) -> Result<(usize, u64), AllocError>
-        requires dir { IsDirAt (at self.now front.now) }
-        requires few { path_count self.now ≤ bound }
-        requires rows { inside front.now self.now.entries ≡ own front.now (at self.now front.now) ++ rows.old.rest }
-        ensures inodes { IfOk result (λ n. n.0 ≡ length (bodies_unnamed (outside front.now self.now.entries) self.now.bodies)) }
-        ensures blocks { IfOk result (λ n. n.1 ≡ sum_by body_blocks (values_of (bodies_unnamed (outside front.now self.now.entries) self.now.bodies))) }
-        ensures sure { 2048 ≤ ROOM → IsOk result }
-    {
-        let _ = self.next_number();
+        let mut rows = self.all_below(front);
         let (mut inodes, mut blocks, mut many) = (0, 0, 0);
-        while let Some(row) = rows.try_next()? {
+        while let Some(row) = rows.next() {
             many += 1;
             let (file, freed) = self.ended_at(front, row.node, many);
             inodes += file;
             blocks += freed;
         }
-        Ok((inodes, blocks))
+        (inodes, blocks)
     }
 
     /// The names in a directory, in byte order, whiteouts among them. There are none where no directory
@@ -436,9 +474,9 @@ impl Table {
     pub fn has_short_paths(&self, from: &Path, to: &Path) -> bool
         requires from { from.now ≡ [] → ⊥ }
         requires to { to.now ≡ [] → ⊥ }
+        requires layer { IsLayer self.now }
         ensures { IsTrue result ↔ ((r : Names) → IsSome (at self.now (from.now ++ r)) → length (text_below (to.now ++ r)) ≤ most_path_bytes) }
     {
-        let _ = self.next_number();
         let front = from.as_str().len();
         let goal = to.as_str().len();
         if goal <= front {

@@ -5,7 +5,6 @@ use Rattle.snap_copyup.proofs.Missing.{missing_from}
 use Rattle.snap_copyup.proofs.Growing.{few_names, takes_missing}
 use Rattle.snap_copyup.proofs.Standing.{missing_left}
 use Rattle.snap_copyup.proofs.Both.{takes_both}
-use Rattle.snap_layer.specs.Layers.{IsLayer}
 use Rattle.snap_copyup.proofs.parents.missing_dirs_of_both.Goals as goal
 
 pub overflow_add-result : goal.overflow_add-result
@@ -18,9 +17,9 @@ returns-clause-count c = λ lowers way_one way_other.
     let q = c.args.other.now in
     let s = c.min-counted.result in
     let n = c.standing_dirs.result in
-    let ok = subst IsLayer c.layer.view_is c.layer.invariant.1 in
+    let ok = c.standing_dirs.ensures.layer in
     let above_one : c.missing_dirs.result ≡ missing_from u [] p = omega (arith, (c.missing_dirs.ensures.count lowers way_one).0, (takes_missing u lowers p ok way_one).0) in
-    let above_other : c.saturating_sub-more.result ≡ missing_from u (take s q) (drop s q) = omega (arith, c.saturating_sub-more.ensures, c.max-passed.ensures, ap length c.names-4.ensures.names, missing_left u q n ok c.standing_dirs.ensures s) in
+    let above_other : c.saturating_sub-more.result ≡ missing_from u (take s q) (drop s q) = omega (arith, c.saturating_sub-more.ensures, c.max-passed.ensures, ap length c.names-4.ensures.names, missing_left u q n ok c.standing_dirs.ensures.above s) in
     let sum : c.missing_dirs.result + c.saturating_sub-more.result ≡ missing_from u [] p + missing_from u (take s q) (drop s q) = omega (arith, above_one, above_other) in
     let k = c.shared_names-shared.result in
     let one = c.names.ensures.names in

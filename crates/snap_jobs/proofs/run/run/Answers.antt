@@ -11,7 +11,7 @@ returns-in-Ok-clause-written g c =
     let before = g.W.Write.contents c.args.output.now in
     let mid = g.W.Write.contents c.read_lines.new.output in
     let read = c.into_read.result in
-    written c.args.options.ends c.args.options.fields c.run_read.result remaining read before mid (g.W.Write.contents c.run_read.new.output)
+    written c.args.options c.args.options.fields c.run_read.result remaining read before mid (g.W.Write.contents c.run_read.new.output)
     (subst (λ (v : LinesValue). IfSome remaining (λ bytes. Tells (transcript (Some max_bytes) jobs_effect v bytes) None before mid)) c.new-lines.ensures c.in-Ok.ensures.done)
     (was_read c.args.options.fields remaining c.read_lines.new.taker read c.into_read.ensures
     (subst (λ (v : LinesValue). IfSome remaining (λ bytes. (transcript (Some max_bytes) jobs_effect v bytes).value ≡ c.read_lines.new.taker)) c.new-lines.ensures c.in-Ok.ensures.value))

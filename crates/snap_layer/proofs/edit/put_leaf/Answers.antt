@@ -34,7 +34,7 @@ returns-in-Ok-clause-ok c =
       key = c.clear_entry.new.slots.vacant_key;
       clears = clears_without c.args.places.now.entries c.args.number c.args.dir c.requires.sorted c.requires.fresh (view_of c.args.slots.now) (view_of c.clear_entry.new.slots) c.clear_entry.new.places.entries c.args.dir c.args.name.now _ refl clears;
       adds = c.in-Ok.ensures.ok v is;
-      places = c.set_place.ensures ∙ ap (insert_entry nat_cmp c.clear_entry.new.places.entries c.args.number) c.vacant_key-key.ensures.value ∙ put_anew c.clear_entry.new.places.entries c.args.number c.clear_entry.new.slots.vacant_key c.clear_entry.ensures.ordered;
+      places = c.set_place.ensures.entries ∙ ap (insert_entry nat_cmp c.clear_entry.new.places.entries c.args.number) c.vacant_key-key.ensures.value ∙ put_anew c.clear_entry.new.places.entries c.args.number c.clear_entry.new.slots.vacant_key c.set_place.ensures.ordered;
     }
 
 pub returns-in-Err-clause-err : goal.returns-in-Err-clause-err

@@ -1,4 +1,4 @@
-use Rattle.std.proofs.Common.{◌≡◌, ◌∷◌, ◌++◌, [], append_assoc, Some, ap, sym, ◌∙◌, arith}
+use Rattle.std.proofs.Common.{◌≡◌, ◌∷◌, ◌++◌, [], append_assoc, length, length-append, Some, ap, sym, ◌∙◌, arith}
 use Rattle.std.specs.Option.{option_copied}
 use Rattle.snap_layer.specs.Rows.{frames_text}
 use Rattle.snap_layer.proofs.Ahead.{ahead_gone, ahead_next, frames_text_snoc}
@@ -57,3 +57,15 @@ returns-in-Some-first_after-clause-gone g c = tt
 
 pub returns-clause-passes : goal.returns-clause-passes
 returns-clause-passes g c = tt
+
+pub returns-in-Some-first_after-clause-room : goal.returns-in-Some-first_after-clause-room
+returns-in-Some-first_after-clause-room g c =
+    omega (
+      arith,
+      ap length c.push_reserved.ensures.items,
+      length-append c.pop.new.self.items ((c.frame.inside.key, Some c.in-Some-first_after.name.now) ∷ []),
+      c.push_reserved.ensures.capacity,
+      c.in-Some.ensures.len,
+      c.in-Some.ensures.capacity,
+      c.loop-frame.invariant.room,
+    )

@@ -52,7 +52,8 @@ loop-words-preserved c =
     subst (λ (a : Arrival). Leads (following c.loop-words.links s) s c.advance.new.words due (Ok a)) c.in-Link.is (c.in_ok-place-2.ensures.leads (following c.loop-words.links s))
     in
     let more : suc (c.loop-words.links - 1) ≡ c.loop-words.links = omega arith in
-    ap (λ (p : Names). way (following (c.loop-words.links - 1) s) s p c.put_target.new.self) c.start_of-place.ensures
+    c.in_ok-place-in-Link.ensures.ok (following (c.loop-words.links - 1) s)
+    ∙ ap (λ (p : Names). way (following (c.loop-words.links - 1) s) s p c.put_target.new.self) c.start_of.ensures
     ∙ ap (way (following (c.loop-words.links - 1) s) s (start_of c.in-Link.directory c.in-Link.target.now)) c.in_ok-put_target-in-Link.ensures
     ∙ ap (λ (k : ℕ). following k s (start_of c.in-Link.directory c.in-Link.target.now) (words_of c.in-Link.target.now ++ c.advance.new.words)) more
     ∙ sym leads ∙ c.loop-words.invariant

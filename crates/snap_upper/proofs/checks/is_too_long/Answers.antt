@@ -1,7 +1,5 @@
-use Rattle.std.proofs.Common.{subst}
 use Rattle.snap_upper.proofs.Movable.{long_test}
-use Rattle.snap_layer.specs.Layers.{IsLayer}
 use Rattle.snap_upper.proofs.checks.is_too_long.Goals as goal
 
 pub returns : goal.returns
-returns c = long_test c.args.layer.now c.args.from.now c.args.to.now c.has_short_paths.result (subst IsLayer c.layer.view_is c.layer.invariant.1) c.has_short_paths.ensures.0 c.has_short_paths.ensures.1
+returns c = long_test c.args.layer.now c.args.from.now c.args.to.now c.has_short_paths.result c.requires.layer c.has_short_paths.ensures.0 c.has_short_paths.ensures.1

@@ -9,5 +9,5 @@ pub returns-then-is_none : goal.returns-then-is_none
 returns-then-is_none c =
     let u = c.args.layer.now in
     let p = c.args.path.now in
-    let none = none_from (at u p) (ap is_some (sym c.at.ensures) ∙ c.is_none.ensures ∙ ap not c.if-is_none.true) in
+    let none = none_from (at u p) (ap is_some (sym c.at.ensures.node) ∙ c.is_none.ensures ∙ ap not c.if-is_none.true) in
     c.requires.seen ∙ below_seen u c.args.lowers.now p none

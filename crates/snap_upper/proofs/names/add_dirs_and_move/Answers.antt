@@ -15,10 +15,10 @@ returns-in_err-dirs-clause-error c =
     let t = with_parents c.args.layer.now c.args.lowers.now c.args.to.now in
     refused_first c.from_residual.result c.in_err-dirs.field-0.0 t (shifted t c.args.from.now c.args.to.now c.args.leaves c.args.covers) c.from_residual.ensures.1 c.in_err-dirs.ensures.error
 
-pub relocate-requires : goal.relocate-requires
-relocate-requires c =
+pub relocate-requires-clause-movable : goal.relocate-requires-clause-movable
+relocate-requires-clause-movable c =
     let same = c.in_ok-dirs.ensures.ok in
-    subst (λ (t : Tree). IsMovable t c.args.from.now c.args.to.now) (sym same) (c.requires.movable (subst IsLayer same (subst IsLayer c.layer.view_is c.layer.invariant.1)))
+    subst (λ (t : Tree). IsMovable t c.args.from.now c.args.to.now) (sym same) (c.requires.movable c.in_ok-dirs.ensures.path (subst IsLayer same c.in_ok-dirs.ensures.layer))
 
 pub take_all-requires : goal.take_all-requires
 take_all-requires c =

@@ -4,7 +4,7 @@ use Rattle.std.specs.Map.{lookup}
 use Rattle.std.specs.BTreeMap.{is_at}
 use Rattle.snap_path.specs.Text.{Names}
 use Rattle.snap_layer.specs.Tree.{Tree, Bodies, body, number_at}
-use Rattle.snap_layer.specs.Edits.{HasPlace, with_name, name_of}
+use Rattle.snap_layer.specs.Edits.{HasPlace, with_name, named_node}
 use Rattle.snap_copyup.specs.Undoing.{Undoes}
 use Rattle.snap_copyup.proofs.ParentDirs.{adds_parents}
 use Rattle.snap_upper.proofs.names.add_dirs_and_name.Goals as goal
@@ -39,4 +39,4 @@ returns-clause-ok c =
     let to = c.args.to.now in
     let k = c.args.number in
     let same : body c.add_dirs.new.layer k ≡ body u k = ap (λ (t : Tree). body t k) c.in_ok-dirs.ensures.ok ∙ ap (λ (bs : Bodies). lookup (is_at (nat_cmp k)) bs) (adds_parents u ls to c.requires.way).bodies in
-    c.in_default.ensures.ok ∙ (λ i. with_name (c.in_ok-dirs.ensures.ok i) to (name_of k (same i)))
+    c.in_default.ensures.ok ∙ (λ i. with_name (c.in_ok-dirs.ensures.ok i) to (named_node k (same i)))

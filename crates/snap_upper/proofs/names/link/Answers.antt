@@ -1,8 +1,7 @@
-use Rattle.std.proofs.Common.{sym, ap, ◌∙◌, subst}
+use Rattle.std.proofs.Common.{sym, ap, ◌∙◌}
 use Rattle.snap_upper.specs.declared.op.Op.TheVariants as op
 use Rattle.snap_upper.specs.After.{limited, next_layer}
 use Rattle.snap_upper.proofs.Outcomes.{limited_fits, layer_fits, refused}
-use Rattle.snap_layer.specs.Layers.{IsLayer}
 use Rattle.snap_upper.proofs.names.link.Goals as goal
 
 pub returns-in-Err-clause-error : goal.returns-in-Err-clause-error
@@ -11,4 +10,4 @@ returns-in-Err-clause-error c = refused (next_layer (op.Link c.args.from.now c.a
 pub returns-clause-ok : goal.returns-clause-ok
 returns-clause-ok c =
     let next = c.add_link.new.layer in
-    ap limited (sym c.in_default.ensures.ok) ∙ limited_fits next (layer_fits next (subst IsLayer c.layer.view_is c.layer.invariant.1))
+    ap limited (sym c.in_default.ensures.ok) ∙ limited_fits next (layer_fits next c.in_default.ensures.layer)

@@ -20,22 +20,22 @@ returns-in_err-shift_lower-clause-error c =
 pub returns-then-is_none-clause-ok : goal.returns-then-is_none-clause-ok
 returns-then-is_none-clause-ok c =
     let next = c.shift_lower.new.layer in
-    ap limited (sym c.in_ok-shift_lower.ensures.ok) ∙ limited_fits next (layer_fits next (subst IsLayer c.layer-then-is_none.view_is c.layer-then-is_none.invariant.1))
+    ap limited (sym c.in_ok-shift_lower.ensures.ok) ∙ limited_fits next (layer_fits next c.in_ok-shift_lower.ensures.layer)
 
 pub add_dirs_and_move-requires-clause-way : goal.add_dirs_and_move-requires-clause-way
 add_dirs_and_move-requires-clause-way c = (renamable c.args.layer.now c.args.lowers.now c.args.from.now c.args.to.now c.requires.passes c.requires.moves).way_to
 
 pub add_dirs_and_move-requires-clause-movable : goal.add_dirs_and_move-requires-clause-movable
-add_dirs_and_move-requires-clause-movable c = λ okt.
+add_dirs_and_move-requires-clause-movable c = λ path okt.
     let u = c.args.layer.now in
     let ls = c.args.lowers.now in
     let from = c.args.from.now in
     let to = c.args.to.now in
-    let ok = subst IsLayer c.layer.view_is c.layer.invariant.1 in
+    let ok = c.requires.layer in
     let is = renamable u ls from to c.requires.passes c.requires.moves in
-    let some : is_some (at u from) ≡ true = ap is_some (sym c.at.ensures) ∙ c.is_none.ensures ∙ ap not c.if-is_none.false in
+    let some : is_some (at u from) ≡ true = ap is_some (sym c.at.ensures.node) ∙ c.is_none.ensures ∙ ap not c.if-is_none.false in
     let same : before_move u ls from to ≡ with_parents u ls to = ap (λ (t : Tree). with_parents t ls to) (own_copy u ls from ok some) in
-    subst (λ (t : Tree). IsMovable t from to) same (prepared_movable u ls from to ok c.requires.layers is c.names.ensures.valid (subst IsLayer (sym same) okt))
+    subst (λ (t : Tree). IsMovable t from to) same (prepared_movable u ls from to ok c.requires.layers is path (subst IsLayer (sym same) okt))
 
 pub returns-in_err-add_dirs_and_move-clause-error : goal.returns-in_err-add_dirs_and_move-clause-error
 returns-in_err-add_dirs_and_move-clause-error c =
@@ -43,9 +43,9 @@ returns-in_err-add_dirs_and_move-clause-error c =
     let ls = c.args.lowers.now in
     let from = c.args.from.now in
     let to = c.args.to.now in
-    let ok = subst IsLayer c.layer.view_is c.layer.invariant.1 in
+    let ok = c.requires.layer in
     let is = renamable u ls from to c.requires.passes c.requires.moves in
-    let some : is_some (at u from) ≡ true = ap is_some (sym c.at.ensures) ∙ c.is_none.ensures ∙ ap not c.if-is_none.false in
+    let some : is_some (at u from) ≡ true = ap is_some (sym c.at.ensures.node) ∙ c.is_none.ensures ∙ ap not c.if-is_none.false in
     let same : before_move u ls from to ≡ with_parents u ls to = ap (λ (t : Tree). with_parents t ls to) (own_copy u ls from ok some) in
     let leaves : is_some (below u ls from) ≡ c.args.leaves = sym c.requires.leaves in
     let covers : is_some (below u ls to) ≡ c.args.covers = sym c.requires.covers in
@@ -60,10 +60,10 @@ returns-clause-ok c =
     let ls = c.args.lowers.now in
     let from = c.args.from.now in
     let to = c.args.to.now in
-    let some : is_some (at u from) ≡ true = ap is_some (sym c.at.ensures) ∙ c.is_none.ensures ∙ ap not c.if-is_none.false in
-    let same : before_move u ls from to ≡ with_parents u ls to = ap (λ (t : Tree). with_parents t ls to) (own_copy u ls from (subst IsLayer c.layer.view_is c.layer.invariant.1) some) in
+    let some : is_some (at u from) ≡ true = ap is_some (sym c.at.ensures.node) ∙ c.is_none.ensures ∙ ap not c.if-is_none.false in
+    let same : before_move u ls from to ≡ with_parents u ls to = ap (λ (t : Tree). with_parents t ls to) (own_copy u ls from c.requires.layer some) in
     let leaves : is_some (below u ls from) ≡ c.args.leaves = sym c.requires.leaves in
     let covers : is_some (below u ls to) ≡ c.args.covers = sym c.requires.covers in
     let next = c.add_dirs_and_move.new.layer in
     let shifts : renamed u ls from to ≡ shifted (with_parents u ls to) from to c.args.leaves c.args.covers = λ i. shifted (same i) from to (leaves i) (covers i) in
-    ap limited (shifts ∙ sym c.in_ok-add_dirs_and_move.ensures.ok) ∙ limited_fits next (layer_fits next (subst IsLayer c.layer-2.view_is c.layer-2.invariant.1))
+    ap limited (shifts ∙ sym c.in_ok-add_dirs_and_move.ensures.ok) ∙ limited_fits next (layer_fits next c.in_ok-add_dirs_and_move.ensures.layer)

@@ -23,7 +23,7 @@ returns-in_err-above_from-clause-error c =
     let to = c.args.to.now in
     let is = renamable u ls from to c.requires.passes c.requires.moves in
     IfErr-refused c.from_residual.result c.in_err-above_from.field-0.0 (with_parents (with_parents u ls from) ls to) (renamed u ls from to) c.from_residual.ensures.1
-    (rename_full u ls from to (subst IsLayer c.layer.view_is c.layer.invariant.1) c.requires.layers is c.requires.lower) c.in_err-above_from.ensures.error
+    (rename_full u ls from to c.requires.layer c.requires.layers is c.requires.lower) c.in_err-above_from.ensures.error
 
 pub put_shifted_copy-requires-clause-bare : goal.put_shifted_copy-requires-clause-bare
 put_shifted_copy-requires-clause-bare c =
@@ -32,7 +32,7 @@ put_shifted_copy-requires-clause-bare c =
     let from = c.args.from.now in
     let to = c.args.to.now in
     let is = renamable u ls from to c.requires.passes c.requires.moves in
-    ap (λ (t : Tree). at t from) c.in_ok-above_from.ensures.ok ∙ rename_bare u ls from to (subst IsLayer c.layer.view_is c.layer.invariant.1) c.requires.layers is c.requires.lower
+    ap (λ (t : Tree). at t from) c.in_ok-above_from.ensures.ok ∙ rename_bare u ls from to c.requires.layer c.requires.layers is c.requires.lower
 
 pub put_shifted_copy-requires-clause-parent : goal.put_shifted_copy-requires-clause-parent
 put_shifted_copy-requires-clause-parent c =
@@ -41,7 +41,7 @@ put_shifted_copy-requires-clause-parent c =
     let from = c.args.from.now in
     let to = c.args.to.now in
     let is = renamable u ls from to c.requires.passes c.requires.moves in
-    subst (λ (t : Tree). HasParent t from) (sym c.in_ok-above_from.ensures.ok) (rename_parent u ls from to (subst IsLayer c.layer.view_is c.layer.invariant.1) c.requires.layers is c.requires.lower)
+    subst (λ (t : Tree). HasParent t from) (sym c.in_ok-above_from.ensures.ok) (rename_parent u ls from to c.requires.layer c.requires.layers is c.requires.lower)
 
 pub put_shifted_copy-requires-clause-place : goal.put_shifted_copy-requires-clause-place
 put_shifted_copy-requires-clause-place c =
@@ -51,7 +51,7 @@ put_shifted_copy-requires-clause-place c =
     let to = c.args.to.now in
     let is = renamable u ls from to c.requires.passes c.requires.moves in
     let same = c.in_ok-above_from.ensures.ok in
-    subst (λ (t : Tree). HasPlace t to) (sym same) (rename_place u ls from to (subst IsLayer c.layer.view_is c.layer.invariant.1) c.requires.layers is c.requires.lower (subst IsLayer same (subst IsLayer c.layer-2.view_is c.layer-2.invariant.1)))
+    subst (λ (t : Tree). HasPlace t to) (sym same) (rename_place u ls from to c.requires.layer c.requires.layers is c.requires.lower (subst IsLayer same c.in_ok-above_from.ensures.layer))
 
 pub put_shifted_copy-requires-clause-not_inside : goal.put_shifted_copy-requires-clause-not_inside
 put_shifted_copy-requires-clause-not_inside c = (renamable c.args.layer.now c.args.lowers.now c.args.from.now c.args.to.now c.requires.passes c.requires.moves).not_inside
@@ -66,7 +66,7 @@ returns-in-Err-clause-error c =
     let from = c.args.from.now in
     let to = c.args.to.now in
     let is = renamable u ls from to c.requires.passes c.requires.moves in
-    rename_refused u ls from to (subst IsLayer c.layer.view_is c.layer.invariant.1) c.requires.layers is c.requires.lower c.add_dirs_of_both.new.layer c.in_ok-above_from.ensures.ok (subst IsLayer c.layer-2.view_is c.layer-2.invariant.1) c.in-Err.error c.in-Err.ensures.error
+    rename_refused u ls from to c.requires.layer c.requires.layers is c.requires.lower c.add_dirs_of_both.new.layer c.in_ok-above_from.ensures.ok c.in_ok-above_from.ensures.layer c.in-Err.error c.in-Err.ensures.error
 
 pub returns-clause-ok : goal.returns-clause-ok
 returns-clause-ok c =
@@ -75,4 +75,4 @@ returns-clause-ok c =
     let from = c.args.from.now in
     let to = c.args.to.now in
     let is = renamable u ls from to c.requires.passes c.requires.moves in
-    rename_made u ls from to (subst IsLayer c.layer.view_is c.layer.invariant.1) c.requires.layers is c.requires.lower c.add_dirs_of_both.new.layer c.in_ok-above_from.ensures.ok (subst IsLayer c.layer-2.view_is c.layer-2.invariant.1) c.put_shifted_copy.new.layer c.in_default.ensures.ok
+    rename_made u ls from to c.requires.layer c.requires.layers is c.requires.lower c.add_dirs_of_both.new.layer c.in_ok-above_from.ensures.ok c.in_ok-above_from.ensures.layer c.put_shifted_copy.new.layer c.in_default.ensures.ok

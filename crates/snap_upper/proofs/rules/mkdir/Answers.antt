@@ -4,7 +4,6 @@ use Rattle.snap_upper.specs.declared.op.Op.TheVariants as op
 use Rattle.snap_upper.specs.After.{is_whiteout_at}
 use Rattle.snap_upper.proofs.Outcomes.{stack_passes}
 use Rattle.snap_upper.proofs.Making.{new, vacant_unseen, dir_after}
-use Rattle.snap_layer.specs.Layers.{IsLayer}
 use Rattle.snap_upper.proofs.rules.mkdir.Goals as goal
 
 pub returns-clause-ok : goal.returns-clause-ok
@@ -12,12 +11,12 @@ returns-clause-ok c =
     let u = c.args.layer.now in
     let ls = c.args.lowers.now in
     let p = c.args.path.now in
-    let ok = subst IsLayer c.layer.view_is c.layer.invariant.1 in
+    let ok = (subst AreLayers c.over.ensures c.in_ok-check_new.ensures.layers).0 in
     let passes = stack_passes (op.Mkdir p c.args.mode) _ (u ∷ ls) c.over.ensures c.in_ok-check_new.ensures.error in
     let made = new u ls p c.args.mode passes in
     record {
       layers = (subst AreLayers c.over.ensures c.in_ok-check_new.ensures.layers).1;
       ready = (made.way, (vacant_unseen u ls p ok made.unseen, made.low), tt);
-      same = dir_after u ls p c.args.mode passes c.is_whiteout-opaque.result (c.is_whiteout-opaque.ensures ∙ ap is_whiteout_at c.at.ensures);
+      same = dir_after u ls p c.args.mode passes c.is_whiteout-opaque.result (c.is_whiteout-opaque.ensures ∙ ap is_whiteout_at c.at.ensures.node);
       in_place = λ none. absurd none;
     }

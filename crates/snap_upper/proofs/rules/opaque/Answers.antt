@@ -5,7 +5,6 @@ use Rattle.snap_upper.specs.declared.op.Op.TheVariants as op
 use Rattle.snap_upper.proofs.Outcomes.{stack_passes}
 use Rattle.snap_upper.proofs.Opaque.{own_dir, own_opaque_after, lower_opaque_ready, lower_opaque_after}
 use Rattle.snap_upper.proofs.Sure.{no_value}
-use Rattle.snap_layer.specs.Layers.{IsLayer}
 use Rattle.snap_upper.proofs.rules.opaque.Goals as goal
 
 pub returns-then-is_some-clause-ok : goal.returns-then-is_some-clause-ok
@@ -13,9 +12,9 @@ returns-then-is_some-clause-ok c =
     let u = c.args.layer.now in
     let ls = c.args.lowers.now in
     let p = c.args.path.now in
-    let ok = subst IsLayer c.layer.view_is c.layer.invariant.1 in
+    let ok = (subst AreLayers c.over.ensures c.in_ok-mode.ensures.layers).0 in
     let passes = stack_passes (op.Opaque p) _ (u ∷ ls) c.over.ensures c.in_ok-mode.ensures.error in
-    let some : is_some (at u p) ≡ true = ap is_some (sym c.at.ensures) ∙ sym c.is_some.ensures ∙ c.if-is_some.true in
+    let some : is_some (at u p) ≡ true = ap is_some (sym c.at.ensures.node) ∙ sym c.is_some.ensures ∙ c.if-is_some.true in
     let m = c.in_ok-mode.mode in
     let was : seen (u ∷ ls) p ≡ Some (dir m) = ap (λ (s : List Tree). seen s p) (sym c.over.ensures) ∙ c.in_ok-mode.ensures.mode in
     record {
@@ -30,9 +29,9 @@ returns-clause-ok c =
     let u = c.args.layer.now in
     let ls = c.args.lowers.now in
     let p = c.args.path.now in
-    let ok = subst IsLayer c.layer.view_is c.layer.invariant.1 in
+    let ok = (subst AreLayers c.over.ensures c.in_ok-mode.ensures.layers).0 in
     let passes = stack_passes (op.Opaque p) _ (u ∷ ls) c.over.ensures c.in_ok-mode.ensures.error in
-    let none : is_some (at u p) ≡ false = ap is_some (sym c.at.ensures) ∙ sym c.is_some.ensures ∙ c.if-is_some.false in
+    let none : is_some (at u p) ≡ false = ap is_some (sym c.at.ensures.node) ∙ sym c.is_some.ensures ∙ c.if-is_some.false in
     let layers = (subst AreLayers c.over.ensures c.in_ok-mode.ensures.layers).1 in
     let m = c.in_ok-mode.mode in
     let was : seen (u ∷ ls) p ≡ Some (dir m) = ap (λ (s : List Tree). seen s p) (sym c.over.ensures) ∙ c.in_ok-mode.ensures.mode in

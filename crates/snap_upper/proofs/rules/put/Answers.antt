@@ -1,7 +1,6 @@
 use Rattle.std.proofs.Common.{ℕ, List, Option, ◌∷◌, sym, subst}
 use Rattle.snap_layer.specs.Contents.{IsContent}
 use Rattle.snap_layer.specs.declared.content.Content.TheVariants.{Sized}
-use Rattle.snap_layer.specs.Layers.{IsLayer}
 use Rattle.snap_merge.specs.Objects.{AreLayers}
 use Rattle.snap_upper.specs.declared.op.Op.TheVariants as op
 use Rattle.snap_upper.proofs.Outcomes.{stack_passes}
@@ -15,7 +14,7 @@ returns-clause-ok c =
     let p = c.args.path.now in
     let size = c.args.size in
     let digest = c.args.digest.now in
-    let ok = subst IsLayer c.layer.view_is c.layer.invariant.1 in
+    let ok = (subst AreLayers c.over.ensures c.in_ok-check_put.ensures.layers).0 in
     let passes = stack_passes (op.Put p c.args.mode size digest) _ (u ∷ ls) c.over.ensures c.in_ok-check_put.ensures.error in
     let made = IsNewSized-passed (u ∷ ls) p c.args.mode size digest passes in
     let fits = subst (λ (d : Option (List ℕ)). IsContent (Sized size d)) (sym c.as_ref-digest.ensures.value) made.content in

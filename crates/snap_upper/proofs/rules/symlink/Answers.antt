@@ -4,7 +4,6 @@ use Rattle.snap_merge.specs.Objects.{AreLayers}
 use Rattle.snap_upper.specs.declared.op.Op.TheVariants as op
 use Rattle.snap_upper.proofs.Outcomes.{stack_passes}
 use Rattle.snap_upper.proofs.Making.{IsNewSymlink-passed, vacant_unseen, symlink_after}
-use Rattle.snap_layer.specs.Layers.{IsLayer}
 use Rattle.snap_upper.proofs.rules.symlink.Goals as goal
 
 pub returns-clause-ok : goal.returns-clause-ok
@@ -12,7 +11,7 @@ returns-clause-ok c =
     let u = c.args.layer.now in
     let ls = c.args.lowers.now in
     let p = c.args.path.now in
-    let ok = subst IsLayer c.layer.view_is c.layer.invariant.1 in
+    let ok = (subst AreLayers c.over.ensures c.in_ok-check_symlink.ensures.layers).0 in
     let target = c.args.target.now in
     let passes = stack_passes (op.Symlink p target) _ (u ∷ ls) c.over.ensures c.in_ok-check_symlink.ensures.error in
     let made = IsNewSymlink-passed (u ∷ ls) p target passes in

@@ -6,7 +6,6 @@ use Rattle.snap_upper.proofs.Outcomes.{stack_passes, after_passes}
 use Rattle.snap_upper.proofs.Erased.{IsErasable-name}
 use Rattle.snap_upper.proofs.Sure.{node_of_number}
 use Rattle.snap_layer.specs.Tree.{at}
-use Rattle.snap_layer.specs.Layers.{IsLayer}
 use Rattle.snap_upper.proofs.rules.unlink.Goals as goal
 
 pub returns-clause-ok : goal.returns-clause-ok
@@ -14,7 +13,7 @@ returns-clause-ok c =
     let u = c.args.layer.now in
     let ls = c.args.lowers.now in
     let p = c.args.path.now in
-    let ok = subst IsLayer c.layer.view_is c.layer.invariant.1 in
+    let ok = (subst AreLayers c.over.ensures c.in_ok-found.ensures.layers).0 in
     let passes = stack_passes (op.Unlink p) _ (u ∷ ls) c.over.ensures c.in_ok-found.ensures.error in
     let layers = subst AreLayers c.over.ensures c.in_ok-found.ensures.layers in
     let erasable = IsErasable-name (u ∷ ls) p layers (dir_seen u ls [] ok.root) passes in

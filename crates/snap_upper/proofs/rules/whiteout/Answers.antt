@@ -8,7 +8,6 @@ use Rattle.snap_upper.specs.After.{limited}
 use Rattle.snap_upper.proofs.Outcomes.{stack_passes, after_passes}
 use Rattle.snap_upper.proofs.Trees.{IsErasableTree-passed, tree_is_erased}
 use Rattle.snap_upper.proofs.Sure.{node_of_number, number_of_no_dir}
-use Rattle.snap_layer.specs.Layers.{IsLayer}
 use Rattle.snap_upper.proofs.rules.whiteout.Goals as goal
 
 pub returns-then-is_dir_there-clause-ok : goal.returns-then-is_dir_there-clause-ok
@@ -30,7 +29,7 @@ returns-clause-ok c =
     let u = c.args.layer.now in
     let ls = c.args.lowers.now in
     let p = c.args.path.now in
-    let ok = subst IsLayer c.layer.view_is c.layer.invariant.1 in
+    let ok = (subst AreLayers c.over.ensures c.in_ok-found.ensures.layers).0 in
     let passes = stack_passes (op.Whiteout p) _ (u ∷ ls) c.over.ensures c.in_ok-found.ensures.error in
     let erasable = IsErasableTree-passed (u ∷ ls) p passes in
     let no_dir : IsDirAt (at u p) → ⊥ = λ dir. clash (sym (c.is_dir_there.ensures.1 dir) ∙ c.if-is_dir_there.false) in

@@ -1,20 +1,18 @@
-use Rattle.std.proofs.Common.{subst}
 use Rattle.snap_copyup.proofs.Alone.{OnOk-weaker}
 use Rattle.snap_upper.proofs.Changing.{after_changes}
 use Rattle.snap_upper.proofs.Made.{made_changes, made_first}
 use Rattle.snap_upper.specs.After.{after}
 use Rattle.snap_upper.proofs.Sure.{lists_none, made_sure, refused_sure}
-use Rattle.snap_layer.specs.Layers.{IsLayer}
 use Rattle.snap_upper.proofs.upper.apply.Goals as goal
 
 pub returns-in_err-change-clause-law : goal.returns-in_err-change-clause-law
-returns-in_err-change-clause-law c = λ lowers v layers e. after_changes c.args.op.now c.args.layer.now lowers v (subst IsLayer c.layer.view_is c.layer.invariant.1) layers e
+returns-in_err-change-clause-law c = λ lowers v layers e. after_changes c.args.op.now c.args.layer.now lowers v c.in_err-change.ensures.layer layers e
 
 pub returns-clause-view : goal.returns-clause-view
-returns-clause-view c = OnOk-weaker c.perform.result (made_changes c.args.op.now c.args.layer.now c.args.lowers.now c.perform.new.layer c.in_ok-change.change (subst IsLayer c.layer.view_is c.layer.invariant.1) c.in_ok-change.ensures.ok) c.perform.ensures.ok
+returns-clause-view c = OnOk-weaker c.perform.result (made_changes c.args.op.now c.args.layer.now c.args.lowers.now c.perform.new.layer c.in_ok-change.change c.in_ok-change.ensures.layer c.in_ok-change.ensures.ok) c.perform.ensures.ok
 
 pub returns-clause-law : goal.returns-clause-law
-returns-clause-law c = λ lowers v layers e. after_changes c.args.op.now c.args.layer.now lowers v (subst IsLayer c.layer.view_is c.layer.invariant.1) layers e
+returns-clause-law c = λ lowers v layers e. after_changes c.args.op.now c.args.layer.now lowers v c.in_ok-change.ensures.layer layers e
 
 pub returns-clause-first : goal.returns-clause-first
 returns-clause-first c = λ none. made_first c.args.op.now c.args.layer.now c.args.lowers.now c.in_ok-change.change c.perform.result c.in_ok-change.ensures.ok

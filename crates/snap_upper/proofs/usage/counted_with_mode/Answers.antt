@@ -1,7 +1,5 @@
-use Rattle.std.proofs.Common.{subst}
 use Rattle.snap_upper.proofs.Modes.{with_mode_planned}
-use Rattle.snap_layer.specs.Layers.{IsLayer}
 use Rattle.snap_upper.proofs.usage.counted_with_mode.Goals as goal
 
 pub returns : goal.returns
-returns c = with_mode_planned c.args.layer.now c.args.path.now c.args.mode (subst IsLayer c.layer.view_is c.layer.invariant.1) c.requires.there c.requires.low c.count-after.result c.count-after.ensures.bodies
+returns c = with_mode_planned c.args.layer.now c.args.path.now c.args.mode c.count-after.ensures.layer c.requires.there c.requires.low c.count-after.result c.count-after.ensures.bodies

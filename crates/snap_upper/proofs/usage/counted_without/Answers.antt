@@ -1,10 +1,9 @@
-use Rattle.std.proofs.Common.{◌≡◌, ◌+◌, Bool, true, false, refl, subst, arith}
+use Rattle.std.proofs.Common.{◌≡◌, ◌+◌, Bool, true, false, refl, arith}
 use Rattle.std.specs.Prelude.{if◌then◌else◌}
 use mir.Val.{bool_byte}
 use Rattle.snap_layer.specs.Counts.{inode_count}
 use Rattle.snap_layer.specs.Edits.{without_tree}
 use Rattle.snap_upper.proofs.Trees.{tree_planned}
-use Rattle.snap_layer.specs.Layers.{IsLayer}
 use Rattle.snap_upper.proofs.usage.counted_without.Goals as goal
 
 byte_of : (b : Bool) → bool_byte b ≡ (if b then 1 else 0)
@@ -16,6 +15,6 @@ returns c =
     let u = c.args.layer.now in
     let p = c.args.path.now in
     let covers = c.args.covers in
-    let ok = subst IsLayer c.layer.view_is c.layer.invariant.1 in
+    let ok = c.requires.layer in
     let inodes : c.left_without_tree-inodes.result.0 + c.from.result ≡ inode_count (without_tree u p) + (if covers then 1 else 0) = omega (arith, c.left_without_tree-inodes.ensures.inodes, c.from.ensures, byte_of covers) in
-    λ ls is. tree_planned u ls p covers ok c.left_without_tree-inodes.ensures.path c.requires is _ inodes c.left_without_tree-inodes.ensures.blocks
+    λ ls is. tree_planned u ls p covers ok c.left_without_tree-inodes.ensures.path c.requires.dir is _ inodes c.left_without_tree-inodes.ensures.blocks

@@ -1,4 +1,4 @@
-use Rattle.std.proofs.Common.{◌≡◌, ◌+◌, ◌-◌, [], Option, Some, sym, ap, ◌∙◌, arith, subst}
+use Rattle.std.proofs.Common.{◌≡◌, ◌+◌, ◌-◌, [], Option, Some, sym, ap, ◌∙◌, arith}
 use Rattle.snap_layer.specs.Counts.{blocks_of}
 use Rattle.snap_layer.specs.declared.node.Body.{Body}
 use Rattle.snap_layer.specs.declared.node.Body.TheVariants as body_kinds
@@ -10,12 +10,11 @@ use Rattle.snap_usage.specs.declared.usage.Usage.{Usage}
 use Rattle.snap_upper.specs.After.{limited, with_content}
 use Rattle.snap_upper.proofs.Outcomes.{planned_fits}
 use Rattle.snap_upper.proofs.Writing.{rewrites, few_blocks}
-use Rattle.snap_layer.specs.Layers.{IsLayer}
 use Rattle.snap_upper.proofs.usage.plan_filling.Goals as goal
 
 pub overflow_sub-after : goal.overflow_sub-after
 overflow_sub-after c =
-    let ok = subst IsLayer c.layer.view_is c.layer.invariant.1 in
+    let ok = c.count-now.ensures.layer in
     let t = c.requires.there in
     let size = t.3 in
     let before = (rewrites c.args.layer.now c.args.number t.0 t.1 (edited c.args.edit t.1) ok t.2 t.5).blocks in
@@ -26,13 +25,13 @@ pub overflow_add-after : goal.overflow_add-after
 overflow_add-after c =
     let t = c.requires.there in
     let size = t.3 in
-    omega (arith, c.blocks_of-new.ensures, c.size.ensures t.1 (sym size) t.4, content_blocks (edited c.args.edit t.1) t.5, ap (λ (n : Usage). n.blocks) c.count-now.ensures.bodies, few_blocks c.args.layer.now (subst IsLayer c.layer.view_is c.layer.invariant.1))
+    omega (arith, c.blocks_of-new.ensures, c.size.ensures t.1 (sym size) t.4, content_blocks (edited c.args.edit t.1) t.5, ap (λ (n : Usage). n.blocks) c.count-now.ensures.bodies, few_blocks c.args.layer.now c.count-now.ensures.layer)
 
 pub returns : goal.returns
 returns c =
     let u = c.args.layer.now in
     let k = c.args.number in
-    let ok = subst IsLayer c.layer.view_is c.layer.invariant.1 in
+    let ok = c.count-now.ensures.layer in
     let t = c.requires.there in
     let size = t.3 in
     let new = edited c.args.edit t.1 in

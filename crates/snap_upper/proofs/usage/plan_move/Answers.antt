@@ -1,4 +1,4 @@
-use Rattle.std.proofs.Common.{◌≡◌, ◌+◌, Bool, true, false, ℕ, refl, ap, sym, ◌∙◌, arith, subst}
+use Rattle.std.proofs.Common.{◌≡◌, ◌+◌, Bool, true, false, ℕ, refl, ap, sym, ◌∙◌, arith}
 use mir.Val.{bool_byte}
 use Rattle.std.specs.Prelude.{is_some, not, if◌then◌else◌}
 use Rattle.snap_layer.specs.Tree.{at}
@@ -11,7 +11,6 @@ use Rattle.snap_upper.proofs.Erased.{none_from}
 use Rattle.snap_upper.proofs.Movable.{renamable}
 use Rattle.snap_upper.proofs.MoveCounts.{placeable, renamed_next}
 use Rattle.snap_upper.proofs.PreparedCounts.{prepared_next}
-use Rattle.snap_layer.specs.Layers.{IsLayer}
 use Rattle.snap_upper.proofs.usage.plan_move.Goals as goal
 
 byte_of : (b : Bool) → bool_byte b ≡ (if b then 1 else 0)
@@ -24,7 +23,7 @@ count_placed-left-requires c =
     let ls = c.args.lowers.now in
     let from = c.args.from.now in
     let to = c.args.to.now in
-    record { layers = c.requires.layers; placeable = placeable u ls from to (subst IsLayer c.layer.view_is c.layer.invariant.1) c.requires.layers (renamable u ls from to c.requires.passes c.requires.moves) }
+    record { layers = c.requires.layers; placeable = placeable u ls from to c.requires.layer c.requires.layers (renamable u ls from to c.requires.passes c.requires.moves) }
 
 pub returns : goal.returns
 returns c =
@@ -32,12 +31,12 @@ returns c =
     let ls = c.args.lowers.now in
     let from = c.args.from.now in
     let to = c.args.to.now in
-    let ok = subst IsLayer c.layer.view_is c.layer.invariant.1 in
+    let ok = c.requires.layer in
     let lower = c.is_none.result in
     let is = renamable u ls from to c.requires.passes c.requires.moves in
     let leaves : is_some (below u ls from) ≡ c.args.leaves = sym c.requires.leaves in
     let inodes : c.count_placed-left.result.inodes + c.from.result ≡ inode_count (without (before_move u ls from to) to) + (if is_some (below u ls from) then 1 else 0) = omega (arith, ap (λ (n : Usage). n.inodes) c.count_placed-left.ensures.count, c.from.ensures, byte_of c.args.leaves, ap {B = ℕ} (λ b. if b then 1 else 0) leaves) in
-    let stands : is_some (at u from) ≡ not lower = ap is_some (sym c.at.ensures) ∙ c.is_none.ensures in
+    let stands : is_some (at u from) ≡ not lower = ap is_some (sym c.at.ensures.node) ∙ c.is_none.ensures in
     let number = prepared_next u ls from to ok c.requires.layers (placeable u ls from to ok c.requires.layers is) lower (λ e. none_from (at u from) (stands ∙ ap not e)) (λ e. stands ∙ ap not e) in
     c.fitting.ensures (renamed u ls from to)
-    (renamed_next u ls from to ok c.requires.layers is c.names.ensures.valid c.names-2.ensures.valid (record { blocks = c.count_placed-left.result.blocks; inodes = c.count_placed-left.result.inodes + c.from.result }) inodes (ap (λ (n : Usage). n.blocks) c.count_placed-left.ensures.count) lower number)
+    (renamed_next u ls from to ok c.requires.layers is c.count_placed-left.ensures.source c.count_placed-left.ensures.target (record { blocks = c.count_placed-left.result.blocks; inodes = c.count_placed-left.result.inodes + c.from.result }) inodes (ap (λ (n : Usage). n.blocks) c.count_placed-left.ensures.count) lower number)

@@ -1,5 +1,6 @@
 use Rattle.std.proofs.Common.{◌≡◌, ◌+◌, length}
-use Rattle.snap_writers.specs.Starting.{Each, IsAssigned}
+use Rattle.snap_writers.specs.Jobs.{Each}
+use Rattle.snap_writers.specs.Starting.{IsAssigned}
 use Rattle.snap_writers.proofs.assignment.assignments.Given as goal
 
 abbrev pub invariant-loop-place : goal.invariant-loop-place

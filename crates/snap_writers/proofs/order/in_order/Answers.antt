@@ -1,18 +1,18 @@
 use Rattle.std.proofs.Common.{rules, arith, ◌≡◌, ◌+◌, List, length, length-append, [], ◌∷◌, ◌++◌, refl, sym, ap, subst, ◌∙◌}
 use Rattle.std.specs.Prelude.{get_or}
 use Rattle.snap_writers.specs.declared.job.Ended.{Ended}
-use Rattle.snap_writers.specs.Starting.{ends_at}
+use Rattle.snap_writers.specs.Jobs.{ends_at}
 use Rattle.snap_writers.proofs.Turning.{Next, turns_begin, in_range, turned, ends_are, taken_next, next_one, on, round_again}
 use Rattle.snap_writers.proofs.order.in_order.Goals as goal
 use Rattle.snap_writers.proofs.order.in_order.Goals.{then-turn-all, else-turn-all}
 
 pub loop-init : goal.loop-init
 loop-init c = record {
-  turns = rw c.requires.room.0 (turns_begin c.requires.worked.0 _ _ _ c.requires.worked.1.count c.requires.worked.1.each);
+  turns = rw c.requires.room.0 (turns_begin _ _ _ c.requires.worked.0 c.requires.worked.1);
   turn = omega (arith, c.requires.workers);
   round = omega arith;
   count = rw c.requires.room.0 refl;
-  all = c.requires.worked.1.count;
+  all = c.requires.worked.0;
   room = c.requires.room.1;
 }
 

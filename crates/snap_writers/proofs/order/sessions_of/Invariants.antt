@@ -1,7 +1,7 @@
 use Rattle.std.proofs.Common.{◌≡◌, ◌≤◌, ◌+◌, ◌++◌, length}
 use Rattle.std.specs.Prelude.{vec_capacity}
 use Rattle.std.specs.Vec.Iter.{into_iter_items}
-use Rattle.snap_writers.specs.Starting.{sessions_of}
+use Rattle.snap_writers.specs.Jobs.{sessions_of}
 use Rattle.snap_writers.proofs.order.sessions_of.Given as goal
 
 abbrev pub invariant-loop-worked : goal.invariant-loop-worked

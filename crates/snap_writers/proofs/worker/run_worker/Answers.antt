@@ -10,4 +10,4 @@ pub returns-in-Err : goal.returns-in-Err
 returns-in-Err g c =
     let jobs = jobs_of c.args.jobs.now c.args.worker c.args.workers in
     let ends = c.unstarted.ensures ∙ (ap (λ (l : List Ended). unprepared (ended.NotPrepared c.in-Err.why) l) c.requires.ends ∙ unprepared-none (ended.NotPrepared c.in-Err.why) jobs) in
-    record { ends = ap length ends ∙ length-map jobs _; session = inr (c.in-Err.why, ends) }
+    record { ends = ap length ends ∙ length-map jobs _; stopped = λ told. absurd (cc); session = inr (c.in-Err.why, c.in-Err.ensures.err, ends) }

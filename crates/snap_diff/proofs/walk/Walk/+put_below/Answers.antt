@@ -1,4 +1,4 @@
-use Rattle.std.proofs.Common.{rules, arith, true, false, ◌≡◌, ◌++◌, ◌∷◌, [], ℕ, List, Option, Err, length, sym, ap, ◌∙◌}
+use Rattle.std.proofs.Common.{rules, arith, true, false, ◌≡◌, ◌++◌, ◌∷◌, [], ℕ, List, Option, Err, OnOk, length, sym, ap, subst, ◌∙◌}
 use Rattle.std.specs.List.{flat_map}
 use Rattle.std.specs.declared.ops.Bound.{Bound}
 use Rattle.std.specs.declared.ops.Bound.TheVariants.{Excluded}
@@ -10,9 +10,9 @@ use Rattle.snap_merge.specs.Objects.{object, seen}
 use Rattle.snap_diff.specs.declared.change.Change.{Change}
 use Rattle.snap_diff.specs.Changes.{changes_below, put_rows}
 use Rattle.snap_diff.proofs.Pages.{skipped}
-use Rattle.snap_diff.specs.Places.{names_in}
+use Rattle.snap_diff.specs.Places.{directory_names}
 use Rattle.snap_layer.specs.Directory.{names_from}
-use Rattle.snap_diff.proofs.Places.{touched_is}
+use Rattle.snap_diff.proofs.Places.{merged_is, touched_is}
 use Rattle.snap_diff.proofs.Starts.{from_start, shared_names}
 use Rattle.snap_diff.proofs.Walks.{none_deep, put_full, untouched, put_dir, put_other, no_changes, too_long, put_rows-append}
 use Rattle.snap_diff.proofs.walk.Walk.+put_below.Goals as goal
@@ -55,47 +55,37 @@ put_entry-returns-in-Err-BadPath t c =
     let p : Names = c.args.directory.now ++ c.args.name.now ∷ [] in
     sym (ap (put_rows c.args.self.now.most (option_copied c.args.self.now.after) c.args.rows.now.items) (no_changes c.args.depth c.args.self.now.layer.now c.args.self.now.lowers.now c.show_are_layers.ensures p (too_long p ((c.in-Err-BadPath.ensures {u = tt}).bad.0 (ap Err c.in-Err-BadPath.field-0-is)))))
 
-pub put_shared-loop-name-init : goal.put_shared-loop-name-init
-put_shared-loop-name-init t c =
+pub put_own-loop-name-preserved : goal.put_own-loop-name-preserved
+put_own-loop-name-preserved t c =
     let most = c.args.self.now.most in
     let after : Option Names = option_copied c.args.self.now.after in
     let f : List ℕ → List Change = λ name. changes_below c.args.depth c.args.self.now.layer.now c.args.self.now.lowers.now (c.args.path.now ++ name ∷ []) in
-    ap (λ (b : Bound (List ℕ)). put_rows most after c.args.rows.now.items (flat_map f (names_from b (names_in c.args.own.now.dir)))) c.start-from.ensures
-    ∙ from_start c.args.depth c.args.self.now.layer.now c.args.self.now.lowers.now most after c.args.rows.now.items c.args.path.now (names_in c.args.own.now.dir)
-
-pub put_shared-loop-name-preserved : goal.put_shared-loop-name-preserved
-put_shared-loop-name-preserved t c =
-    let most = c.args.self.now.most in
-    let after : Option Names = option_copied c.args.self.now.after in
-    let f : List ℕ → List Change = λ name. changes_below c.args.depth c.args.self.now.layer.now c.args.self.now.lowers.now (c.args.path.now ++ name ∷ []) in
-    let rest : Names = names_from (Excluded c.in-Some.name.now) (names_in c.args.own.now.dir) in
+    let rest : Names = names_from (Excluded c.in-Some.name.now) (directory_names c.args.own.now.dir) in
     ap (λ (rs : List Change). put_rows most after rs (flat_map f rest)) c.in_ok-put_entry.ensures
     ∙ sym (put_rows-append most after c.loop-name.rows.items (f c.in-Some.name.now) (flat_map f rest))
     ∙ ap (λ (ns : Names). put_rows most after c.loop-name.rows.items (flat_map f ns)) (sym c.in-Some.ensures)
     ∙ c.loop-name.invariant
 
-pub put_shared-loop-name-smaller : goal.put_shared-loop-name-smaller
-put_shared-loop-name-smaller t c = omega (arith, ap (λ (ns : Names). length ns) c.in-Some.ensures)
+pub put_own-loop-name-smaller : goal.put_own-loop-name-smaller
+put_own-loop-name-smaller t c = omega (arith, ap (λ (ns : Names). length ns) c.in-Some.ensures)
 
-pub put_shared-returns : goal.put_shared-returns
-put_shared-returns t c =
+pub put_own-returns : goal.put_own-returns
+put_own-returns t c =
     let most = c.args.self.now.most in
     let after : Option Names = option_copied c.args.self.now.after in
     let f : List ℕ → List Change = λ name. changes_below c.args.depth c.args.self.now.layer.now c.args.self.now.lowers.now (c.args.path.now ++ name ∷ []) in
     ap (λ (ns : Names). put_rows most after c.loop-name.rows.items (flat_map f ns)) (sym c.in_default.ensures)
     ∙ c.loop-name.invariant
-    ∙ ap (put_rows most after c.args.rows.now.items) (shared_names c.args.depth c.args.self.now.layer.now c.args.self.now.lowers.now c.show_are_layers.ensures c.args.path.now c.args.own.now.node c.args.own.now.dir c.args.own.now.hidden c.requires.own c.requires.touched c.requires.merged)
 
-pub put_shared-returns-then-len-self : goal.put_shared-returns-then-len-self
-put_shared-returns-then-len-self t c =
+pub put_own-returns-then-len-self : goal.put_own-returns-then-len-self
+put_own-returns-then-len-self t c =
     let most = c.args.self.now.most in
     let after : Option Names = option_copied c.args.self.now.after in
     let f : List ℕ → List Change = λ name. changes_below c.args.depth c.args.self.now.layer.now c.args.self.now.lowers.now (c.args.path.now ++ name ∷ []) in
-    let left : Names = c.in-Some.name.now ∷ names_from (Excluded c.in-Some.name.now) (names_in c.args.own.now.dir) in
+    let left : Names = c.in-Some.name.now ∷ names_from (Excluded c.in-Some.name.now) (directory_names c.args.own.now.dir) in
     sym (put_full most after c.loop-name.rows.items (flat_map f left) (le-ltb (length c.loop-name.rows.items) most (omega (arith, c.len.ensures, c.if-len-self.true))))
     ∙ ap (λ (ns : Names). put_rows most after c.loop-name.rows.items (flat_map f ns)) (sym c.in-Some.ensures)
     ∙ c.loop-name.invariant
-    ∙ ap (put_rows most after c.args.rows.now.items) (shared_names c.args.depth c.args.self.now.layer.now c.args.self.now.lowers.now c.show_are_layers.ensures c.args.path.now c.args.own.now.node c.args.own.now.dir c.args.own.now.hidden c.requires.own c.requires.touched c.requires.merged)
 
 pub put_both-loop-name-preserved : goal.put_both-loop-name-preserved
 put_both-loop-name-preserved t c =
@@ -130,3 +120,19 @@ put_both-returns-then-len-self t c =
     ∙ ap (λ (ns : Names). put_rows most after c.args.rows.now.items (flat_map f ns)) (c.into_iter-name-iterator.ensures.into_iter_gives ∙ c.range-name-items.ensures.between tt ∙ ap (λ (b : Bound (List ℕ)). names_from b c.in_ok-names.names.keys) c.start.ensures)
     ∙ from_start c.args.depth c.args.self.now.layer.now c.args.self.now.lowers.now most after c.args.rows.now.items c.args.path.now c.in_ok-names.names.keys
     ∙ ap (λ (ns : Names). put_rows most after c.args.rows.now.items (flat_map f ns)) c.in_ok-names.ensures
+
+pub put_inside-returns-then-is_merged : goal.put_inside-returns-then-is_merged
+put_inside-returns-then-is_merged t c =
+    let most = c.args.self.now.most in
+    let after : Option Names = option_copied c.args.self.now.after in
+    let u = c.args.self.now.layer.now in
+    let ls = c.args.self.now.lowers.now in
+    let p = c.args.path.now in
+    let own = c.args.own.now in
+    let f : List ℕ → List Change = λ name. changes_below c.args.depth u ls (p ++ name ∷ []) in
+    let merges = sym (merged_is u p own.node own.dir own.hidden c.requires.own) ∙ sym c.is_merged.ensures ∙ c.if-is_merged.true in
+    subst (λ (xs : List Change). OnOk c.put_own.result (c.put_own.new.rows.items ≡ xs))
+    (ap (λ (b : Bound (List ℕ)). put_rows most after c.args.rows.now.items (flat_map f (names_from b (directory_names own.dir)))) c.start.ensures
+    ∙ from_start c.args.depth u ls most after c.args.rows.now.items p (directory_names own.dir)
+    ∙ ap (put_rows most after c.args.rows.now.items) (shared_names c.args.depth u ls c.show_are_layers.ensures p own.node own.dir own.hidden c.requires.own c.requires.touched merges))
+    c.put_own.ensures

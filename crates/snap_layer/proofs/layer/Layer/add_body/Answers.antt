@@ -54,3 +54,10 @@ room_for-requires-clause-blocks c = omega (arith, c.blocks-2.ensures, body_small
 
 pub put_leaf-requires-clause-last : goal.put_leaf-requires-clause-last
 put_leaf-requires-clause-last c = subst (λ (u : Tree). u.next < most_number) (sym c.self.view_is) (omega (arith, fits_next c.args.self.now c.args.path.now 1 1 c.in_ok-room.ensures.fits))
+
+pub returns-clause-layer : goal.returns-clause-layer
+returns-clause-layer c =
+    let ok : IsLayer c.args.self.now = c.room_for.ensures.layer in
+    let costs = new_costs c.args.self.now ok c.args.path.now c.room_for.ensures.path c.args.body c.blocks-2.result c.requires.place c.requires.fits c.blocks-2.ensures in
+    let is : c.put_leaf.new.self ≡ with_new c.args.self.now c.args.path.now (leaf_node c.args.self.now.next c.args.body) c.args.body = c.in_ok-put_leaf.ensures.ok ∙ ap (λ (u : Tree). with_new u c.args.path.now (leaf_node u.next c.args.body) c.args.body) c.self.view_is in
+    subst IsLayer (sym is) (costs_layer (c.args.self.now) (with_new c.args.self.now c.args.path.now (leaf_node c.args.self.now.next c.args.body) c.args.body) c.args.path.now 1 1 c.blocks-2.result costs c.in_ok-room.ensures.fits)

@@ -50,3 +50,10 @@ returns-clause-full c =
 
 pub room_for-requires-clause-clear : goal.room_for-requires-clause-clear
 room_for-requires-clause-clear c = (HasPlace-from_room c.args.self.now c.args.path.now (subst IsLayer c.self.view_is c.self.invariant.1) c.requires.room).clear
+
+pub returns-clause-layer : goal.returns-clause-layer
+returns-clause-layer c =
+    let ok : IsLayer c.args.self.now = c.room_for.ensures.layer in
+    let costs = dir_costs c.args.self.now ok c.args.path.now c.room_for.ensures.path c.args.mode c.args.opaque c.requires.room c.requires.mode in
+    let is : c.put_dir.new.self ≡ with_entry c.args.self.now c.args.path.now (Dir c.args.mode c.args.opaque) = c.in_ok-put_dir.ensures.ok ∙ ap (λ (u : Tree). with_entry u c.args.path.now (Dir c.args.mode c.args.opaque)) c.self.view_is in
+    subst IsLayer (sym is) (costs_layer (c.args.self.now) (with_entry c.args.self.now c.args.path.now (Dir c.args.mode c.args.opaque)) c.args.path.now 0 1 1 costs c.in_ok-room.ensures.fits)

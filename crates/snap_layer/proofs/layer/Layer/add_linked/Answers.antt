@@ -62,3 +62,10 @@ put_linked-requires-clause-last c = subst (λ (u : Tree). u.next < most_number) 
 
 pub room_for-requires-clause-clear : goal.room_for-requires-clause-clear
 room_for-requires-clause-clear c = (HasPlace-from_room c.args.self.now c.args.link.now (subst IsLayer c.self.view_is c.self.invariant.1) c.requires.rooms.room).clear
+
+pub returns-clause-layer : goal.returns-clause-layer
+returns-clause-layer c =
+    let ok : IsLayer c.args.self.now = c.room_for.ensures.layer in
+    let costs = linked_costs c.args.self.now ok c.args.path.now c.args.link.now c.requires.rooms c.args.body c.blocks-2.result c.requires.fits c.names.ensures.valid c.room_for.ensures.path c.blocks-2.ensures in
+    let is : c.put_linked.new.self ≡ with_linked c.args.self.now c.args.path.now c.args.link.now c.args.body = c.in_ok-put_linked.ensures.ok ∙ ap (λ (u : Tree). with_linked u c.args.path.now c.args.link.now c.args.body) c.self.view_is in
+    subst IsLayer (sym is) (costs_layer (c.args.self.now) (with_linked c.args.self.now c.args.path.now c.args.link.now c.args.body) c.args.link.now 1 1 c.blocks-2.result costs c.in_ok-room.ensures.fits)

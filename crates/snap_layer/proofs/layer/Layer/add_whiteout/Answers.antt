@@ -50,3 +50,10 @@ pub returns-in_err-room-clause-sure : goal.returns-in_err-room-clause-sure
 returns-in_err-room-clause-sure c = λ e.
     let had : Counts c.self.inside.totals c.args.self.now = subst (Counts c.self.inside.totals) c.self.view_is c.self.invariant.0 in
     path_gone c.args.self.now c.room_for.ensures.layer c.args.path.now (path_count (without c.args.self.now c.args.path.now)) refl (omega (arith, had.paths, c.self.ranges)) (last_by c.from_residual.result c.in_err-room.field-0.0 (path_count (without c.args.self.now c.args.path.now)) c.from_residual.ensures.1 c.in_err-room.ensures.last e)
+
+pub returns-clause-layer : goal.returns-clause-layer
+returns-clause-layer c =
+    let ok : IsLayer c.args.self.now = c.room_for.ensures.layer in
+    let costs = whiteout_costs c.args.self.now ok c.args.path.now c.room_for.ensures.path c.requires in
+    let is : c.whiteout.new.self ≡ with_node c.args.self.now c.args.path.now Whiteout = c.in_ok-whiteout.ensures.ok ∙ ap (λ (u : Tree). with_node u c.args.path.now Whiteout) c.self.view_is in
+    subst IsLayer (sym is) (costs_layer (c.args.self.now) (with_node c.args.self.now c.args.path.now Whiteout) c.args.path.now 0 1 0 costs c.in_ok-room.ensures.fits)

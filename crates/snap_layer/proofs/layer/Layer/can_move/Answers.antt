@@ -12,22 +12,22 @@ has_short_paths-requires-clause-from c =
     not_root c.args.from.now c.args.to.now not_inside
 
 pub has_short_paths-requires-clause-to : goal.has_short_paths-requires-clause-to
-has_short_paths-requires-clause-to c = (c.has_place.ensures.0 c.if-not-has_place.false).above.below_root
+has_short_paths-requires-clause-to c = (c.has_place.ensures.place.0 c.if-not-has_place.false).above.below_root
 
 pub returns : goal.returns
 returns c =
     let from = c.args.from.now in
     let to = c.args.to.now in
-    let place = c.has_place.ensures.0 c.if-not-has_place.false in
+    let place = c.has_place.ensures.place.0 c.if-not-has_place.false in
     let not_inside : begins from to ≡ false = sym c.begins.ensures.value ∙ c.if-begins.false in
     let not_around : begins to from ≡ false = sym c.begins-else-begins.ensures.value ∙ c.if-begins-2.false in
-    let ok = subst IsLayer c.self.view_is c.self.invariant.1 in (
+    let ok = c.at.ensures.layer in (
       (λ t. record {
-        there = ap is_some (sym c.at.ensures) ∙ c.if-is_none.ensures;
+        there = ap is_some (sym c.at.ensures.node) ∙ c.if-is_none.ensures;
         place = place;
         not_inside = not_inside;
         not_around = not_around;
-        fits = λ r some. moved_names from to r c.names.ensures.valid (ok.paths _ some) (c.has_short_paths.ensures.0 t r some);
+        fits = λ r some. moved_names from to r c.has_place.ensures.path (ok.paths _ some) (c.has_short_paths.ensures.0 t r some);
       }),
       λ movable. c.has_short_paths.ensures.1 (λ r some. (movable.fits r some).1),
     )

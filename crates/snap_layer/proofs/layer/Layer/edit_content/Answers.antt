@@ -84,3 +84,20 @@ returns-clause-ok c =
     ∙ with_edited u c.args.number b c.args.edit low
     ∙ ap (λ (o : Option Body). with_filled u c.args.number o (edited c.args.edit (body_content o))) (sym had.2)
     ∙ ap (λ (t : Tree). with_filled t c.args.number (body t c.args.number) (edited c.args.edit (body_content (body t c.args.number)))) c.self.view_is
+
+pub returns-clause-layer : goal.returns-clause-layer
+returns-clause-layer c =
+    let u = c.self.inside.table in
+    let ok : IsLayer u = c.self.invariant.1 in
+    let file = regular_there u ok c.args.number (body u c.args.number) refl (subst (λ (t : Tree). IsRegular (body t c.args.number)) (sym c.self.view_is) c.requires.file) in
+    let had = file_body (body u c.args.number) file in
+    let b : Body = body_kinds.File had.0 had.1 in
+    let low : IsFile (Some b) = subst IsFile had.2 file in
+    let short : IsShort c.args.edit had.1 = subst (IsShort c.args.edit) (ap (λ (t : Tree). body_content (body t c.args.number)) (sym c.self.view_is) ∙ ap body_content had.2) c.requires.short in
+    let blocks = c.in_ok-freed.ensures.blocks b had.2 in
+    let freed : c.in_ok-freed.freed ≡ body_blocks b = ap (λ (p : ℕ × ℕ). p.0) blocks in
+    let taken : c.in_ok-freed.taken ≡ body_blocks (body_edited b c.args.edit) = ap (λ (p : ℕ × ℕ). p.1) blocks in
+    let few = body_few u ok c.args.number b had.2 in
+    let is : c.edit_content.new.self ≡ with_body u c.args.number (body_edited b c.args.edit) = c.in_ok-freed.ensures.ok b had.2 in
+    let edits = file_edited u ok c.args.number b c.args.edit had.2 low short in
+    subst IsLayer (sym is) edits.layer

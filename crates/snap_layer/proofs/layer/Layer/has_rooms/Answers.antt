@@ -18,8 +18,8 @@ pub returns : goal.returns
 returns c =
     let same = Decides-at c.eq.result _ c.eq.ensures (pointwise_decides bytes_decides c.args.path.now c.args.link.now) in (
       (λ t. record {
-        bare = not_some c.is_some.result (at c.args.self.now c.args.path.now) (c.is_some.ensures ∙ ap is_some c.at.ensures) c.if-is_some.false;
-        above = c.has_parent.ensures.0 c.if-not-has_parent.false;
+        bare = not_some c.is_some.result (at c.args.self.now c.args.path.now) (c.is_some.ensures ∙ ap is_some c.at.ensures.node) c.if-is_some.false;
+        above = c.has_parent.ensures.parent.0 c.if-not-has_parent.false;
         room = c.has_room.ensures.0 t;
         apart = λ e. no_bool (sym (same.1 e) ∙ c.if-eq.false);
       }),

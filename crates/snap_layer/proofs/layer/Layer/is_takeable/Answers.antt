@@ -11,4 +11,4 @@ differ e = cc
 pub returns : goal.returns
 returns c =
     let Clear : Tree → Type 0 = λ t. (n : List ℕ) → IsFree (at t (c.args.path.now ++ n ∷ [])) in
-    (λ t. record { there = ap is_some (sym c.at.ensures) ∙ c.if-is_none.ensures; clear = subst Clear c.self.view_is (c.has_clear.ensures.0 t); below_root = λ e. differ (c.if-is_empty.ensures ∙ ap (λ (ns : Names). length ns == 0) (c.names.ensures.names ∙ e)) }, λ taken. c.has_clear.ensures.1 (subst Clear (sym c.self.view_is) taken.clear))
+    (λ t. record { there = ap is_some (sym c.at.ensures.node) ∙ c.if-is_none.ensures; clear = subst Clear c.self.view_is (c.has_clear.ensures.0 t); below_root = λ e. differ (c.if-is_empty.ensures ∙ ap (λ (ns : Names). length ns == 0) (c.names.ensures.names ∙ e)) }, λ taken. c.has_clear.ensures.1 (subst Clear (sym c.self.view_is) taken.clear))

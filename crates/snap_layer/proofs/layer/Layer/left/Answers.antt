@@ -48,20 +48,20 @@ returns-clause-few c =
 
 pub overflow_sub-result-6 : goal.overflow_sub-result-6
 overflow_sub-result-6 c =
-    let is = paths_left c.args.self.now c.self.inside.table c.self.view_is (subst IsLayer c.self.view_is c.self.invariant.1) c.args.path.now c.names.result.now c.names.ensures.names c.self.inside.totals c.self.invariant.0 c.tally_inside-dirs.result.0 c.tally_inside-dirs.result.1 c.names_in-names.result c.tally_inside-dirs.ensures.dirs c.tally_inside-dirs.ensures.whiteouts (c.names_in-names.ensures ∙ ap (λ (o : Option Node). if is_some (option_and_then number_of o) then 1 else 0) c.at-node.ensures) in
+    let is = paths_left c.args.self.now c.self.inside.table c.self.view_is (subst IsLayer c.self.view_is c.self.invariant.1) c.args.path.now c.names.result.now c.names.ensures.names c.self.inside.totals c.self.invariant.0 c.tally_inside-dirs.result.0 c.tally_inside-dirs.result.1 c.names_in-names.result c.tally_inside-dirs.ensures.dirs c.tally_inside-dirs.ensures.whiteouts (c.names_in-names.ensures ∙ ap (λ (o : Option Node). if is_some (option_and_then number_of o) then 1 else 0) c.at-node.ensures.node) in
     omega (arith, is.fit)
 
 pub overflow_sub-result-7 : goal.overflow_sub-result-7
 overflow_sub-result-7 c =
-    let is = paths_left c.args.self.now c.self.inside.table c.self.view_is (subst IsLayer c.self.view_is c.self.invariant.1) c.args.path.now c.names.result.now c.names.ensures.names c.self.inside.totals c.self.invariant.0 c.tally_inside-dirs.result.0 c.tally_inside-dirs.result.1 c.names_in-names.result c.tally_inside-dirs.ensures.dirs c.tally_inside-dirs.ensures.whiteouts (c.names_in-names.ensures ∙ ap (λ (o : Option Node). if is_some (option_and_then number_of o) then 1 else 0) c.at-node.ensures) in
+    let is = paths_left c.args.self.now c.self.inside.table c.self.view_is (subst IsLayer c.self.view_is c.self.invariant.1) c.args.path.now c.names.result.now c.names.ensures.names c.self.inside.totals c.self.invariant.0 c.tally_inside-dirs.result.0 c.tally_inside-dirs.result.1 c.names_in-names.result c.tally_inside-dirs.ensures.dirs c.tally_inside-dirs.ensures.whiteouts (c.names_in-names.ensures ∙ ap (λ (o : Option Node). if is_some (option_and_then number_of o) then 1 else 0) c.at-node.ensures.node) in
     omega (arith, is.fit)
 
 pub overflow_sub-result-8 : goal.overflow_sub-result-8
 overflow_sub-result-8 c =
-    let is = paths_left c.args.self.now c.self.inside.table c.self.view_is (subst IsLayer c.self.view_is c.self.invariant.1) c.args.path.now c.names.result.now c.names.ensures.names c.self.inside.totals c.self.invariant.0 c.tally_inside-dirs.result.0 c.tally_inside-dirs.result.1 c.names_in-names.result c.tally_inside-dirs.ensures.dirs c.tally_inside-dirs.ensures.whiteouts (c.names_in-names.ensures ∙ ap (λ (o : Option Node). if is_some (option_and_then number_of o) then 1 else 0) c.at-node.ensures) in
+    let is = paths_left c.args.self.now c.self.inside.table c.self.view_is (subst IsLayer c.self.view_is c.self.invariant.1) c.args.path.now c.names.result.now c.names.ensures.names c.self.inside.totals c.self.invariant.0 c.tally_inside-dirs.result.0 c.tally_inside-dirs.result.1 c.names_in-names.result c.tally_inside-dirs.ensures.dirs c.tally_inside-dirs.ensures.whiteouts (c.names_in-names.ensures ∙ ap (λ (o : Option Node). if is_some (option_and_then number_of o) then 1 else 0) c.at-node.ensures.node) in
     omega (arith, is.fit)
 
 pub returns-clause-paths : goal.returns-clause-paths
-returns-clause-paths c = λ clear.
-    let is = paths_left c.args.self.now c.self.inside.table c.self.view_is (subst IsLayer c.self.view_is c.self.invariant.1) c.args.path.now c.names.result.now c.names.ensures.names c.self.inside.totals c.self.invariant.0 c.tally_inside-dirs.result.0 c.tally_inside-dirs.result.1 c.names_in-names.result c.tally_inside-dirs.ensures.dirs c.tally_inside-dirs.ensures.whiteouts (c.names_in-names.ensures ∙ ap (λ (o : Option Node). if is_some (option_and_then number_of o) then 1 else 0) c.at-node.ensures) in
-    omega (arith, is.paths_are clear)
+returns-clause-paths c =
+    let is = paths_left c.args.self.now c.self.inside.table c.self.view_is (subst IsLayer c.self.view_is c.self.invariant.1) c.args.path.now c.names.result.now c.names.ensures.names c.self.inside.totals c.self.invariant.0 c.tally_inside-dirs.result.0 c.tally_inside-dirs.result.1 c.names_in-names.result c.tally_inside-dirs.ensures.dirs c.tally_inside-dirs.ensures.whiteouts (c.names_in-names.ensures ∙ ap (λ (o : Option Node). if is_some (option_and_then number_of o) then 1 else 0) c.at-node.ensures.node) in
+    omega (arith, is.paths_are c.requires)

@@ -50,3 +50,10 @@ returns-clause-full c =
     let ok : IsLayer c.args.self.now = c.room_for.ensures.layer in
     let costs = moved_costs c.args.self.now ok c.args.from.now c.args.to.now c.args.leaves c.from.result c.requires (c.from.ensures ∙ as_number c.args.leaves) in
     costs_done (c.args.self.now) (with_moved c.args.self.now c.args.from.now c.args.to.now c.args.leaves) c.args.to.now 0 c.from.result 0 costs c.in_ok-room.ensures.fits _
+
+pub returns-clause-layer : goal.returns-clause-layer
+returns-clause-layer c =
+    let ok : IsLayer c.args.self.now = c.room_for.ensures.layer in
+    let costs = moved_costs c.args.self.now ok c.args.from.now c.args.to.now c.args.leaves c.from.result c.requires (c.from.ensures ∙ as_number c.args.leaves) in
+    let is : c.relocate.new.self ≡ with_moved c.args.self.now c.args.from.now c.args.to.now c.args.leaves = c.in_ok-relocate.ensures.ok ∙ ap (λ (u : Tree). with_moved u c.args.from.now c.args.to.now c.args.leaves) c.self.view_is in
+    subst IsLayer (sym is) (costs_layer (c.args.self.now) (with_moved c.args.self.now c.args.from.now c.args.to.now c.args.leaves) c.args.to.now 0 c.from.result 0 costs c.in_ok-room.ensures.fits)

@@ -6,5 +6,5 @@ use Rattle.snap_layer.proofs.layer.Layer.set_opaque.Goals as goal
 
 pub set_dir-requires-clause-mode : goal.set_dir-requires-clause-mode
 set_dir-requires-clause-mode c =
-    let ok : IsLayer c.args.self.now = subst IsLayer c.self.view_is c.self.invariant.1 in
-    dir_mode c.args.self.now ok c.args.path.now c.in-Some-Dir.mode c.in-Some-Dir.field-0-1 (sym c.at.ensures ∙ c.in-Some-Dir.is ∙ ap (λ (n : Node). Some n) c.in-Some-Dir.field-0-is)
+    let ok : IsLayer c.args.self.now = c.at.ensures.layer in
+    dir_mode c.args.self.now ok c.args.path.now c.in-Some-Dir.mode c.in-Some-Dir.field-0-1 (sym c.at.ensures.node ∙ c.in-Some-Dir.is ∙ ap (λ (n : Node). Some n) c.in-Some-Dir.field-0-is)

@@ -8,7 +8,7 @@ use Rattle.snap_layer.proofs.Trees.{last_step, alone_paths}
 use Rattle.snap_layer.proofs.layer.Layer.take_below.Goals as goal
 
 pub loop-paths-init : goal.loop-paths-init
-loop-paths-init c = record { paths = sym c.requires.paths; same = refl; rest = refl; layer = subst IsLayer c.self.view_is c.self.invariant.1 }
+loop-paths-init c = record { paths = sym c.requires.paths; same = refl; rest = refl; layer = c.requires.layer }
 
 pub take_name-requires : goal.take_name-requires
 take_name-requires c =
@@ -23,7 +23,7 @@ loop-paths-preserved-in-Some c =
     let p = c.args.path.now in
     let long : 1 < length (c.pop.new.self.items ++ c.in-Some.last ∷ []) = omega (arith, c.loop-paths-test.true, c.len.ensures, ap (λ (ks : List Names). length ks) c.in-Some.ensures.items) in
     let step = last_step t c.loop-paths.invariant.layer p c.in-Some.last c.pop.new.self.items (c.loop-paths.invariant.paths ∙ c.in-Some.ensures.items) long in
-    let made : c.take_name.new.self ≡ without t c.in-Some.last = c.take_name.ensures in
+    let made : c.take_name.new.self ≡ without t c.in-Some.last = c.take_name.ensures.next in
     record {
       paths = ap (λ (u : Tree). keys_of (inside p u.entries)) made ∙ step.paths;
       same = ap (λ (u : Tree). at u p) made ∙ step.same ∙ c.loop-paths.invariant.same;

@@ -12,7 +12,7 @@ invariant_of-result-2 g c =
     let from = walk (entry_at c.args.slots.now) c.args.root c.args.front.now in
     let walks : IsWalk c.args.slots.now c.args.root (map.entries c.requires.table.0.0) c.args.front.now c.enter_first.new.frames.items =
     subst (IsWalk c.args.slots.now c.args.root (map.entries c.requires.table.0.0) c.args.front.now) (sym c.enter_first.ensures.frames) (first_walk c.args.slots.now c.args.root c.requires.table.0 c.requires.table.1 c.args.front.now from refl c.enter_first.ensures.order) in
-    (subst (λ es. IsWalk c.args.slots.now c.args.root es c.args.front.now c.enter_first.new.frames.items) (same_entries (node_contracts.the_row).coded c.args.slots.now c.args.root c.requires.table.0 c.result-1.given.0) walks, first_text c.args.slots.now c.args.root c.requires.table.0 c.requires.table.1 c.args.front.now from refl c.enter_first.ensures.order c.enter_first.new.frames.items c.enter_first.ensures.frames, omega (arith, c.enter_first.ensures.capacity, c.new-frames.ensures.capacity))
+    (subst (λ es. IsWalk c.args.slots.now c.args.root es c.args.front.now c.enter_first.new.frames.items) (same_entries (node_contracts.the_row).coded c.args.slots.now c.args.root c.requires.table.0 c.result-1.given.0) walks, first_text c.args.slots.now c.args.root c.requires.table.0 c.requires.table.1 c.args.front.now from refl c.enter_first.ensures.order c.enter_first.new.frames.items c.enter_first.ensures.frames, omega (arith, c.enter_first.ensures.capacity, c.new-frames.ensures.capacity), c.enter_first.ensures.room)
 
 pub returns-clause-rest : goal.returns-clause-rest
 returns-clause-rest g c = λ h.

@@ -1,6 +1,7 @@
-use Rattle.std.proofs.Common.{◌++◌, sym, ap, ◌∙◌, arith}
+use Rattle.std.proofs.Common.{◌++◌, sym, ap, subst, ◌∙◌, arith}
 use Rattle.snap_layer.specs.Tree.{Tree}
 use Rattle.snap_layer.specs.Edits.{inside}
+use Rattle.snap_layer.specs.Layers.{IsLayer}
 use Rattle.snap_layer.specs.Rows.{own}
 use Rattle.snap_layer.proofs.Makes.{opens}
 use Rattle.snap_layer.proofs.table.Table.below.Goals as goal
@@ -27,3 +28,6 @@ returns-clause-rest c =
     sym (ap (λ (t : Tree). inside c.args.front.now t.entries) c.self.view_is)
     ∙ c.below.ensures.rest c.self.inside.tree
     ∙ ap (λ o. own c.args.front.now o ++ c.below.result.rest) (m.shows c.args.front.now)
+
+pub returns-clause-layer : goal.returns-clause-layer
+returns-clause-layer c = subst IsLayer c.self.view_is c.self.invariant.layer

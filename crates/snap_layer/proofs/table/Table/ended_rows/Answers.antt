@@ -1,105 +1,95 @@
-use Rattle.std.proofs.Common.{◌≡◌, ◌+◌, ◌++◌, ◌∷◌, [], ℕ, length, take, refl, sym, ap, ◌∙◌, arith, append_assoc, append-nil, length-append}
+use Rattle.std.proofs.Common.{◌≡◌, ◌++◌, ◌∷◌, [], ℕ, List, length, sym, ap, ◌∙◌, arith, append_assoc, append-nil}
 use Rattle.std.specs.List.{sum_by}
 use Rattle.std.specs.Map.{values_of}
-use Rattle.std.proofs.lemmas.List.{take_at}
 use Rattle.snap_path.specs.Text.{Names}
 use Rattle.snap_layer.specs.declared.node.Node.{Node}
 use Rattle.snap_layer.specs.Tree.{Entries, Bodies, at}
 use Rattle.snap_layer.specs.Counts.{body_blocks}
 use Rattle.snap_layer.specs.Edits.{inside}
-use Rattle.snap_layer.specs.Ended.{ended}
+use Rattle.snap_layer.specs.Ended.{met_of}
 use Rattle.snap_layer.specs.Rows.{own}
 use Rattle.snap_layer.proofs.Bounds.{blocks_of_bodies}
-use Rattle.snap_layer.proofs.Ending.{ended_all, ended_few, ended_light, ended_start, few_among, few_fit, step_blocks, step_inodes}
+use Rattle.snap_layer.proofs.Ending.{ended_all, ended_few, ended_light, ended_start, few_among, step_blocks, step_inodes}
 use Rattle.snap_layer.proofs.Somes.{match_some, match_none}
 use Rattle.snap_layer.proofs.table.Table.ended_rows.Goals as goal
 
-pub loop-row-init : goal.loop-row-init
-loop-row-init g c =
-    let start = ended_start c.args.self.now c.next_number.ensures.layer in
-    ([], c.requires.rows, refl, sym (ap (λ (bs : Bodies). length bs) start), sym (ap (λ (bs : Bodies). sum_by body_blocks (values_of bs)) start))
+pub loop-rows-init : goal.loop-rows-init
+loop-rows-init c =
+    let start = ended_start c.args.self.now c.below-rows.ensures.layer in
+    ([], c.below-rows.ensures.rest, λ k several. ap (λ (m : List (ℕ × ℕ)). met_of m k) c.new-met.ensures.empty, sym (ap (λ (bs : Bodies). length bs) start), sym (ap (λ (bs : Bodies). sum_by body_blocks (values_of bs)) start))
 
-pub overflow_add-many : goal.overflow_add-many
-overflow_add-many g c =
+pub ended_by-requires : goal.ended_by-requires
+ended_by-requires c =
     let t = c.args.self.now in
     let p = c.args.front.now in
-    let so = c.loop-row.invariant in
-    let long = few_fit t p (at t p) so.0 c.try_next.new.self.rest c.try_next.new.self.path c.in-Some.row.node (so.1 ∙ ap (λ (es : Entries). own p (at t p) ++ (so.0 ++ es)) (match_some _ _ c.in-Some.is c.in_ok-row.ensures.row)) in
-    omega (arith, so.2, long, c.requires.few, c.ranges.bound.fits)
-
-pub ended_at-file-requires : goal.ended_at-file-requires
-ended_at-file-requires g c =
-    let t = c.args.self.now in
-    let p = c.args.front.now in
-    let so = c.loop-row.invariant in
+    let ok = c.below-rows.ensures.layer in
+    let so = c.loop-rows.invariant in
     let e : Names × Node = (c.try_next.new.self.path, c.in-Some.row.node) in
     let post = so.0 ++ e ∷ [] in
-    let split : so.0 ++ c.loop-row.rows.rest ≡ post ++ c.try_next.new.self.rest = ap (λ (es : Entries). so.0 ++ es) (match_some _ _ c.in-Some.is c.in_ok-row.ensures.row) ∙ sym (append_assoc so.0 (e ∷ []) c.try_next.new.self.rest) in
-    let taken : take (c.loop-row.many + 1) (so.0 ++ c.loop-row.rows.rest) ≡ post = ap (λ (es : Entries). take (c.loop-row.many + 1) es) split ∙ take_at post c.try_next.new.self.rest (c.loop-row.many + 1) (omega (arith, length-append so.0 (e ∷ []), so.2)) in
-    record { there = (so.0 ++ c.loop-row.rows.rest, c.try_next.new.self.path, c.try_next.new.self.rest, so.1, split ∙ ap (λ (es : Entries). es ++ c.try_next.new.self.rest) (sym taken), so.0, taken) }
+    let rest = so.0 ++ c.loop-rows.rows.rest in
+    let split : rest ≡ post ++ c.try_next.new.self.rest = ap (λ (es : Entries). so.0 ++ es) (match_some _ _ c.in-Some.is c.in_ok-row.ensures.row) ∙ sym (append_assoc so.0 (e ∷ []) c.try_next.new.self.rest) in
+    let few = few_among t ok p c.requires rest so.1 post c.try_next.new.self.rest split in
+    record { there = (so.0, c.try_next.new.self.path, so.2, few) }
 
 pub overflow_add-inodes : goal.overflow_add-inodes
-overflow_add-inodes g c =
+overflow_add-inodes c =
     let t = c.args.self.now in
     let p = c.args.front.now in
-    let ok = c.next_number.ensures.layer in
-    let so = c.loop-row.invariant in
+    let ok = c.below-rows.ensures.layer in
+    let so = c.loop-rows.invariant in
     let e : Names × Node = (c.try_next.new.self.path, c.in-Some.row.node) in
     let post = so.0 ++ e ∷ [] in
-    let rest = so.0 ++ c.loop-row.rows.rest in
+    let rest = so.0 ++ c.loop-rows.rows.rest in
     let split : rest ≡ post ++ c.try_next.new.self.rest = ap (λ (es : Entries). so.0 ++ es) (match_some _ _ c.in-Some.is c.in_ok-row.ensures.row) ∙ sym (append_assoc so.0 (e ∷ []) c.try_next.new.self.rest) in
-    let taken : take (c.loop-row.many + 1) rest ≡ post = ap (λ (es : Entries). take (c.loop-row.many + 1) es) split ∙ take_at post c.try_next.new.self.rest (c.loop-row.many + 1) (omega (arith, length-append so.0 (e ∷ []), so.2)) in
-    let is = c.ended_at-file.ensures rest so.1 ∙ ap (λ (es : Entries). ended t c.in-Some.row.node es) taken in
-    let step = step_inodes t ok so.0 c.try_next.new.self.path c.in-Some.row.node (few_among t ok p c.requires.dir rest so.1 post c.try_next.new.self.rest split) in
-    omega (arith, so.3, step, ap (λ (x : ℕ × ℕ). x.0) is, ended_few t post, ok.few)
+    let few = few_among t ok p c.requires rest so.1 post c.try_next.new.self.rest split in
+    let is = c.in_ok-file.ensures.ended so.0 c.try_next.new.self.path so.2 few in
+    omega (arith, so.3, step_inodes t ok so.0 c.try_next.new.self.path c.in-Some.row.node few, ap (λ (x : ℕ × ℕ). x.0) is, ended_few t post, ok.few)
 
 pub overflow_add-blocks : goal.overflow_add-blocks
-overflow_add-blocks g c =
+overflow_add-blocks c =
     let t = c.args.self.now in
     let p = c.args.front.now in
-    let ok = c.next_number.ensures.layer in
-    let so = c.loop-row.invariant in
+    let ok = c.below-rows.ensures.layer in
+    let so = c.loop-rows.invariant in
     let e : Names × Node = (c.try_next.new.self.path, c.in-Some.row.node) in
     let post = so.0 ++ e ∷ [] in
-    let rest = so.0 ++ c.loop-row.rows.rest in
+    let rest = so.0 ++ c.loop-rows.rows.rest in
     let split : rest ≡ post ++ c.try_next.new.self.rest = ap (λ (es : Entries). so.0 ++ es) (match_some _ _ c.in-Some.is c.in_ok-row.ensures.row) ∙ sym (append_assoc so.0 (e ∷ []) c.try_next.new.self.rest) in
-    let taken : take (c.loop-row.many + 1) rest ≡ post = ap (λ (es : Entries). take (c.loop-row.many + 1) es) split ∙ take_at post c.try_next.new.self.rest (c.loop-row.many + 1) (omega (arith, length-append so.0 (e ∷ []), so.2)) in
-    let is = c.ended_at-file.ensures rest so.1 ∙ ap (λ (es : Entries). ended t c.in-Some.row.node es) taken in
-    let step = step_blocks t ok so.0 c.try_next.new.self.path c.in-Some.row.node (few_among t ok p c.requires.dir rest so.1 post c.try_next.new.self.rest split) in
-    omega (arith, so.4, step, ap (λ (x : ℕ × ℕ). x.1) is, ended_light t post, blocks_of_bodies t ok, ok.few)
+    let few = few_among t ok p c.requires rest so.1 post c.try_next.new.self.rest split in
+    let is = c.in_ok-file.ensures.ended so.0 c.try_next.new.self.path so.2 few in
+    omega (arith, so.4, step_blocks t ok so.0 c.try_next.new.self.path c.in-Some.row.node few, ap (λ (x : ℕ × ℕ). x.1) is, ended_light t post, blocks_of_bodies t ok, ok.few)
 
-pub loop-row-preserved : goal.loop-row-preserved
-loop-row-preserved g c =
+pub loop-rows-preserved : goal.loop-rows-preserved
+loop-rows-preserved c =
     let t = c.args.self.now in
     let p = c.args.front.now in
-    let ok = c.next_number.ensures.layer in
-    let so = c.loop-row.invariant in
+    let ok = c.below-rows.ensures.layer in
+    let so = c.loop-rows.invariant in
     let e : Names × Node = (c.try_next.new.self.path, c.in-Some.row.node) in
     let post = so.0 ++ e ∷ [] in
-    let rest = so.0 ++ c.loop-row.rows.rest in
+    let rest = so.0 ++ c.loop-rows.rows.rest in
     let split : rest ≡ post ++ c.try_next.new.self.rest = ap (λ (es : Entries). so.0 ++ es) (match_some _ _ c.in-Some.is c.in_ok-row.ensures.row) ∙ sym (append_assoc so.0 (e ∷ []) c.try_next.new.self.rest) in
-    let taken : take (c.loop-row.many + 1) rest ≡ post = ap (λ (es : Entries). take (c.loop-row.many + 1) es) split ∙ take_at post c.try_next.new.self.rest (c.loop-row.many + 1) (omega (arith, length-append so.0 (e ∷ []), so.2)) in
-    let is = c.ended_at-file.ensures rest so.1 ∙ ap (λ (es : Entries). ended t c.in-Some.row.node es) taken in
-    let few = few_among t ok p c.requires.dir rest so.1 post c.try_next.new.self.rest split in (
+    let few = few_among t ok p c.requires rest so.1 post c.try_next.new.self.rest split in
+    let is = c.in_ok-file.ensures.ended so.0 c.try_next.new.self.path so.2 few in (
       post,
       so.1 ∙ ap (λ (es : Entries). own p (at t p) ++ es) split,
-      omega (arith, length-append so.0 (e ∷ []), so.2),
+      c.in_ok-file.ensures.met so.0 c.try_next.new.self.path so.2,
       omega (arith, so.3, step_inodes t ok so.0 c.try_next.new.self.path c.in-Some.row.node few, ap (λ (x : ℕ × ℕ). x.0) is),
       omega (arith, so.4, step_blocks t ok so.0 c.try_next.new.self.path c.in-Some.row.node few, ap (λ (x : ℕ × ℕ). x.1) is),
     )
 
 pub returns-clause-inodes : goal.returns-clause-inodes
-returns-clause-inodes g c =
+returns-clause-inodes c =
     let t = c.args.self.now in
     let p = c.args.front.now in
-    let so = c.loop-row.invariant in
+    let so = c.loop-rows.invariant in
     let all : inside p t.entries ≡ own p (at t p) ++ so.0 = so.1 ∙ ap (λ (es : Entries). own p (at t p) ++ (so.0 ++ es)) (match_none _ _ c.in_default.is c.in_ok-row.ensures.row) ∙ ap (λ (es : Entries). own p (at t p) ++ es) (append-nil so.0) in
-    so.3 ∙ ap (λ (bs : Bodies). length bs) (ended_all t c.next_number.ensures.layer p c.requires.dir so.0 all)
+    so.3 ∙ ap (λ (bs : Bodies). length bs) (ended_all t c.below-rows.ensures.layer p c.requires so.0 all)
 
 pub returns-clause-blocks : goal.returns-clause-blocks
-returns-clause-blocks g c =
+returns-clause-blocks c =
     let t = c.args.self.now in
     let p = c.args.front.now in
-    let so = c.loop-row.invariant in
+    let so = c.loop-rows.invariant in
     let all : inside p t.entries ≡ own p (at t p) ++ so.0 = so.1 ∙ ap (λ (es : Entries). own p (at t p) ++ (so.0 ++ es)) (match_none _ _ c.in_default.is c.in_ok-row.ensures.row) ∙ ap (λ (es : Entries). own p (at t p) ++ es) (append-nil so.0) in
-    so.4 ∙ ap (λ (bs : Bodies). sum_by body_blocks (values_of bs)) (ended_all t c.next_number.ensures.layer p c.requires.dir so.0 all)
+    so.4 ∙ ap (λ (bs : Bodies). sum_by body_blocks (values_of bs)) (ended_all t c.below-rows.ensures.layer p c.requires so.0 all)

@@ -4,13 +4,13 @@ use Rattle.std.specs.Map.{values_of}
 use Rattle.snap_layer.specs.Tree.{Entries, at}
 use Rattle.snap_layer.specs.Counts.{body_blocks}
 use Rattle.snap_layer.specs.Edits.{inside}
-use Rattle.snap_layer.specs.Ended.{ended_in}
+use Rattle.snap_layer.specs.Ended.{ended_in, AreMet}
 use Rattle.snap_layer.specs.Rows.{own}
 use Rattle.snap_layer.proofs.table.Table.ended_rows.Given as goal
 
--- what ends with the entries that came
-abbrev pub invariant-loop-row : goal.invariant-loop-row
-invariant-loop-row g l = (pre : Entries) × (inside l.front l.self.entries ≡ own l.front (at l.self l.front) ++ (pre ++ l.rows.rest)) × (l.many ≡ length pre) × (l.inodes ≡ length (ended_in l.self pre)) × (l.blocks ≡ sum_by body_blocks (values_of (ended_in l.self pre)))
+-- what ends with the entries that came, and the counts of their names
+abbrev pub invariant-loop-rows : goal.invariant-loop-rows
+invariant-loop-rows l = (pre : Entries) × (inside l.front l.self.entries ≡ own l.front (at l.self l.front) ++ (pre ++ l.rows.rest)) × AreMet l.self pre l.met.entries × (l.inodes ≡ length (ended_in l.self pre)) × (l.blocks ≡ sum_by body_blocks (values_of (ended_in l.self pre)))
 
-abbrev pub decreases-loop-row : goal.decreases-loop-row
-decreases-loop-row g l = length l.rows.rest
+abbrev pub decreases-loop-rows : goal.decreases-loop-rows
+decreases-loop-rows l = length l.rows.rest

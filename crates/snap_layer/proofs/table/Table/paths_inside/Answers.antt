@@ -24,4 +24,4 @@ pub path_beside-requires-clause-short : goal.path_beside-requires-clause-short
 path_beside-requires-clause-short c =
     subst (λ (q : Names). length (text_below q) ≤ most_path_bytes)
     ((if_some _ c.in-Some.is c.in_ok-row.ensures.path) ∙ ap (λ (q : Names). take c.in-Some.row.above q ++ c.in-Some.row.name.now ∷ []) (sym c.loop-rows.invariant.last))
-    (next_path c.args.self.now c.next_number.ensures.layer c.args.front.now c.loop-rows.paths.items c.loop-rows.last c.try_next.new.self.path c.in-Some.row.node c.loop-rows.rows.rest c.try_next.new.self.rest c.loop-rows.invariant.listed (match_some _ _ c.in-Some.is c.in_ok-row.ensures.row)).1
+    (next_path c.args.self.now c.below-rows.ensures.layer c.args.front.now c.loop-rows.paths.items c.loop-rows.last c.try_next.new.self.path c.in-Some.row.node c.loop-rows.rows.rest c.try_next.new.self.rest c.loop-rows.invariant.listed (match_some _ _ c.in-Some.is c.in_ok-row.ensures.row)).1

@@ -43,7 +43,7 @@ put_name-requires-clause-layer c = λ b found.
 
 pub returns-in-Err-clause-err : goal.returns-in-Err-clause-err
 returns-in-Err-clause-err c =
-    c.take_back.ensures c.args.self.now (link_new c.args.self.now c.next_number-number.ensures.layer c.args.path.now c.args.link.now c.requires.rooms c.args.body c.is_some-covers.result (c.is_some-covers.ensures ∙ ap is_some c.at.ensures) c.put_name.new.self (c.in-Err.ensures.err ∙ c.in_ok-put_leaf.ensures.ok))
+    c.take_back.ensures c.args.self.now (link_new c.args.self.now c.next_number-number.ensures.layer c.args.path.now c.args.link.now c.requires.rooms c.args.body c.is_some-covers.result (c.is_some-covers.ensures ∙ ap is_some c.at.ensures.node) c.put_name.new.self (c.in-Err.ensures.err ∙ c.in_ok-put_leaf.ensures.ok))
 
 pub returns-clause-ok : goal.returns-clause-ok
 returns-clause-ok c =
@@ -53,3 +53,6 @@ returns-clause-ok c =
     c.in_default.ensures.ok c.args.body ((λ i. body (is i) (next i)) ∙ there)
     ∙ (λ i. with_node (is i) c.args.path.now (leaf_node (next i) c.args.body))
     ∙ swapped c.args.self.now c.next_number-number.ensures.layer c.args.path.now c.args.link.now c.requires.rooms c.args.body
+
+pub take_back-requires-clause-layer : goal.take_back-requires-clause-layer
+take_back-requires-clause-layer c = subst IsLayer (sym (c.in-Err.ensures.err ∙ c.in_ok-put_leaf.ensures.ok)) (link_layer c.args.self.now c.next_number-number.ensures.layer c.args.path.now c.args.link.now c.requires.rooms c.args.body c.requires.layer c.requires.last)

@@ -10,7 +10,7 @@ use Rattle.snap_layer.proofs.table.Table.tally_inside.Goals as goal
 pub returns-then-not-is_directory : goal.returns-then-not-is_directory
 returns-then-not-is_directory c =
     let leaf : IsDirAt (at c.args.self.now c.args.front.now) → ⊥ = λ dir. not_true c.is_directory.result c.if-not-is_directory.true (c.is_directory.ensures.1 (subst IsDirAt (sym c.requires.node) dir)) in
-    let same : own c.args.front.now c.args.node ≡ inside c.args.front.now c.args.self.now.entries = ap (own c.args.front.now) c.requires.node ∙ sym (inside_leaf c.args.self.now c.next_number.ensures.layer c.args.front.now leaf) in
+    let same : own c.args.front.now c.args.node ≡ inside c.args.front.now c.args.self.now.entries = ap (own c.args.front.now) c.requires.node ∙ sym (inside_leaf c.args.self.now c.requires.layer c.args.front.now leaf) in
     record {
       dirs = c.counts_of.ensures.dirs c.args.front.now ∙ ap (λ (es : Entries). count_by is_dir (values_of es)) same;
       whiteouts = c.counts_of.ensures.whiteouts c.args.front.now ∙ ap (λ (es : Entries). count_by is_whiteout (values_of es)) same;

@@ -7,10 +7,10 @@ use Rattle.snap_layer.proofs.Somes.{match_some}
 use Rattle.snap_layer.proofs.table.Table.tally_rows.Goals as goal
 
 pub overflow_add-dirs : goal.overflow_add-dirs
-overflow_add-dirs g c = omega (arith, inside_few c.args.self.now c.next_number.ensures.layer c.args.front.now, c.loop-row.invariant.dirs, c.from-dirs.ensures, one_at_most c.is_dir.result)
+overflow_add-dirs g c = omega (arith, inside_few c.args.self.now c.requires.layer c.args.front.now, c.loop-row.invariant.dirs, c.from-dirs.ensures, one_at_most c.is_dir.result)
 
 pub overflow_add-whiteouts : goal.overflow_add-whiteouts
-overflow_add-whiteouts g c = omega (arith, inside_few c.args.self.now c.next_number.ensures.layer c.args.front.now, c.loop-row.invariant.whiteouts, c.from-whiteouts.ensures, one_at_most c.is_whiteout.result)
+overflow_add-whiteouts g c = omega (arith, inside_few c.args.self.now c.requires.layer c.args.front.now, c.loop-row.invariant.whiteouts, c.from-whiteouts.ensures, one_at_most c.is_whiteout.result)
 
 pub loop-row-preserved : goal.loop-row-preserved
 loop-row-preserved g c =

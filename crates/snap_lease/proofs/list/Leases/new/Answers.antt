@@ -3,7 +3,7 @@ use Rattle.std.specs.List.{AllByRecursion}
 use Rattle.std.specs.Map.{values_of}
 use Rattle.snap_lease.specs.Lease.{Lease, NamesOnce}
 use Rattle.snap_lease.specs.Leases.{AreDistinct, naming_count}
-use Rattle.snap_lease.specs.Numbers.{number_of}
+use Rattle.snap_lease.specs.Numbers.{lease_number}
 use Rattle.snap_lease.proofs.NumberLemmas.{no_entries}
 use Rattle.snap_lease.proofs.list.Leases.new.Goals as goal
 
@@ -13,6 +13,6 @@ invariant_of-result c =
       subst (λ (es : List (ℕ × Lease)). AreDistinct (values_of es)) (sym none) tt,
       subst (λ (es : List (ℕ × Lease)). AllByRecursion NamesOnce (values_of es)) (sym none) tt,
       (λ space name. c.new-3.ensures space name ∙ ap (λ (es : List (ℕ × Lease)). naming_count (values_of es) space name) (sym none)),
-      (λ space name. c.new-2.ensures space name ∙ ap (λ (es : List (ℕ × Lease)). number_of space name es) (sym none)),
+      (λ space name. c.new-2.ensures space name ∙ ap (λ (es : List (ℕ × Lease)). lease_number space name es) (sym none)),
       c.new.ensures.ordered,
     )

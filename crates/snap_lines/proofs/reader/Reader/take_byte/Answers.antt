@@ -7,7 +7,7 @@ use Rattle.snap_script.specs.declared.fault.Fault.TheVariants.{TooLong}
 use Rattle.snap_script.specs.declared.fault.Shortage.TheVariants.{Allocator}
 use Rattle.snap_lines.specs.Lines.{is_open}
 use Rattle.snap_script.specs.Lines.{max_line}
-use Rattle.snap_lines.specs.Transcripts.{next_number}
+use Rattle.snap_lines.specs.Transcripts.{next_line}
 use Rattle.snap_lines.specs.Runs.{Behind, within, kept_length, Goes, StopsIn}
 use Rattle.snap_lines.specs.declared.stop.Stop.{Stop}
 use Rattle.snap_lines.specs.declared.stop.Stop.TheVariants.{OutOfMemory}
@@ -50,9 +50,9 @@ returns-then-is_some-clause-err g c =
     let no_feed = subst (λ (z : Behind). is_open z.pending ≡ true) c.self.view_is c.self.invariant.1 in
     let limited = ap (λ (z : Behind). is_some z.left) (sym c.self.view_is) ∙ sym c.is_some.ensures ∙ c.if-is_some.true in
     subst (λ (s : Stop). StopsIn effect old (c.args.b ∷ []) s x x) (sym c.fault.ensures)
-    (long_ends effect old c.args.b (record { line = next_number c.self.inside.lines; cause = TooLong }) x no_feed (ne_eqb _ _ c.if-b-eq10.false) limited
+    (long_ends effect old c.args.b (record { line = next_line c.self.inside.lines; cause = TooLong }) x no_feed (ne_eqb _ _ c.if-b-eq10.false) limited
     (ap (λ (z : Behind). length z.pending) (sym c.self.view_is) ∙ ap length (sym c.as_slice-len.ensures.value) ∙ c.if-len-eq-MAX_LINE_BYTES.true)
-    (ap (λ (z : Behind). record { line = next_number z.lines; cause = TooLong }) c.self.view_is))
+    (ap (λ (z : Behind). record { line = next_line z.lines; cause = TooLong }) c.self.view_is))
 
 pub returns-in_err-push-clause-err : goal.returns-in_err-push-clause-err
 returns-in_err-push-clause-err g c =

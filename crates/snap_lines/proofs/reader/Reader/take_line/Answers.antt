@@ -2,7 +2,7 @@ use Rattle.std.proofs.Common.{◌≡◌, ◌≤◌, length, true, false, refl, s
 use Rattle.std.proofs.lemmas.Result.{err_from_is_err_and}
 use Rattle.snap_lines.specs.Effects.{text_bytes}
 use Rattle.snap_lines.specs.Lines.{is_open}
-use Rattle.snap_lines.specs.Transcripts.{next_number, passes}
+use Rattle.snap_lines.specs.Transcripts.{next_line, passes}
 use Rattle.snap_lines.specs.Runs.{Behind, within, kept_length, line_in, LeavesLine}
 use Rattle.snap_lines.specs.declared.stop.Stop.{Stop}
 use Rattle.snap_lines.proofs.TranscriptLaws.{err_is, effect_over, effect_fits, leaves_refused, leaves_broken, run_after, line_len}
@@ -34,7 +34,7 @@ returns-then-passes-clause-err g c =
     let len = line_len c.args.self.now.pending c.args.ended (length c.as_slice-line.result.now) c.from.result pending c.from.ensures in
     let over : passes c.args.self.now.left (length (line_in c.args.self.now.pending c.args.ended)) ≡ true =
     ap (λ (z : Behind). passes z.left (length (line_in c.args.self.now.pending c.args.ended))) (sym c.self.view_is) ∙ ap (passes c.self.inside.left) (sym len) ∙ sym c.passes.ensures ∙ c.if-passes.true in
-    subst (λ (s : Stop). LeavesLine effect old line s x x) (sym c.fault.ensures) ((effect_over effect old.place line over, ap (λ (z : Behind). next_number z.lines) c.self.view_is), refl)
+    subst (λ (s : Stop). LeavesLine effect old line s x x) (sym c.fault.ensures) ((effect_over effect old.place line over, ap (λ (z : Behind). next_line z.lines) c.self.view_is), refl)
 
 pub returns-in_err-text-clause-err : goal.returns-in_err-text-clause-err
 returns-in_err-text-clause-err g c =

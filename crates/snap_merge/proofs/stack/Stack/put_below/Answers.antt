@@ -1,4 +1,4 @@
-use Rattle.std.proofs.Common.{◌≡◌, ◌-◌, ◌++◌, ◌∷◌, [], List, None, Some, sym, ap, ◌∙◌, append_assoc, append-nil}
+use Rattle.std.proofs.Common.{◌≡◌, ◌++◌, ◌∷◌, [], List, None, Some, sym, ap, ◌∙◌, append_assoc, append-nil}
 use Rattle.snap_merge.specs.declared.taken.Part.{Part}
 use Rattle.snap_merge.specs.declared.taken.Part.TheVariants as parts
 use Rattle.snap_merge.specs.Taken.{part}

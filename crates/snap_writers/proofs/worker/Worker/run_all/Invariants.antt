@@ -7,6 +7,6 @@ use Rattle.snap_writers.proofs.worker.Worker.run_all.Given as goal
 abbrev pub invariant-loop-job : goal.invariant-loop-job
 invariant-loop-job g l = record {
   skip : l.skip < l.workers;
-  store : l.this.store ≡ l.fn.self.store;
-  going : IsGoing l.fn.self.store.now.opening.layer_inodes (jobs_of l.jobs l.worker l.workers) (every l.workers l.skip (drop l.job-index l.jobs)) l.this.session l.ends l.place;
+  fixed : l.this.fixed ≡ l.fn.self.fixed;
+  going : IsGoing l.fn.self.fixed.store.now.opening.layer_inodes (jobs_of l.jobs l.fn.self.fixed.number l.workers) (every l.workers l.skip (drop l.job-index l.jobs)) l.this.session l.ends l.place;
 }

@@ -1,49 +1,32 @@
-use Rattle.std.proofs.Common.{refl, [], subst, ◌∙◌}
-use Rattle.snap_writers.specs.declared.job.Ended.TheVariants.{Failed, NotRun}
-use Rattle.snap_writers.specs.Going.{HasRunJob}
-use Rattle.snap_writers.proofs.Calling.{ends_so, failed_so, stays, then_ended, then_on}
+use Rattle.std.proofs.Common.{refl, subst, sym}
+use Rattle.snap_writers.specs.declared.worker.Stop.TheVariants.{Gate, Failed}
+use Rattle.snap_writers.specs.Jobs.{HasStoppedWorker}
+use Rattle.snap_writers.specs.Going.{IsStopOf}
+use Rattle.snap_writers.proofs.Ending.{dropped_run, ended_run, stop_run}
 use Rattle.snap_writers.proofs.worker.Worker.work.Goals as goal
 
-pub returns-then-passes : goal.returns-then-passes
-returns-then-passes g c =
-    let old = c.args.self.now.session in
-    let mid = c.operate_all.new.self.session in
-    let asked = c.passes.new.self.session in
-    let new = c.end.new.self.session in
-    record {
-      run = then_ended old mid new c.args.job.now c.end.result c.in-Ok.ensures.goes (then_ended mid asked new c.args.job.now c.end.result (stays c.args.job.now mid asked c.passes.ensures.same)
-          (subst (λ x. HasRunJob x.now.opening.layer_inodes asked new c.args.job.now c.end.result) (c.passes.ensures.store ∙ c.in-Ok.ensures.store) c.end.ensures.run));
-      store = c.end.ensures.store ∙ (c.passes.ensures.store ∙ c.in-Ok.ensures.store);
-    }
+pub returns-then-passes-clause-run : goal.returns-then-passes-clause-run
+returns-then-passes-clause-run g c chain =
+    ended_run _ c.args.job.now c.args.active chain c.requires.base c.requires.fresh c.args.self.now.session c.operate_all.new.self.session c.passes.new.self.session c.end.new.self.session c.operate_all.new.active c.end.result
+    c.in-Ok.ensures.same c.in-Ok.ensures.done c.in-Ok.ensures.all c.passes.ensures.same c.end.ensures.ended
 
-pub returns-else-passes : goal.returns-else-passes
-returns-else-passes g c =
-    let old = c.args.self.now.session in
-    let mid = c.operate_all.new.self.session in
-    let asked = c.passes.new.self.session in
-    let new = c.discard.new.self.session in
-    record {
-      run = ends_so old new c.args.job.now NotRun refl tt (then_on c.args.job.now old mid new [] c.in-Ok.ensures.goes (then_on c.args.job.now mid asked new [] (stays c.args.job.now mid asked c.passes.ensures.same) (c.discard.ensures.goes c.args.job.now)));
-      store = c.discard.ensures.store ∙ (c.passes.ensures.store ∙ c.in-Ok.ensures.store);
-    }
+pub returns-else-passes-clause-run : goal.returns-else-passes-clause-run
+returns-else-passes-clause-run g c chain =
+    let S = HasStoppedWorker (g.G.Gate.answers c.args.self.now.fixed.gate.now) c.args.self.now.fixed.number in
+    let stopped : S = subst (λ f. HasStoppedWorker (g.G.Gate.answers f.gate.now) f.number) c.in-Ok.ensures.fixed (c.passes.ensures.stopped c.if-passes.false) in
+    dropped_run _ c.args.job.now c.args.active chain c.requires.base c.requires.fresh S c.args.self.now.session c.operate_all.new.self.session c.passes.new.self.session c.discard.new.self.session c.operate_all.new.active
+    stopped c.in-Ok.ensures.same c.in-Ok.ensures.all c.passes.ensures.same c.discard.ensures.went
 
-pub returns-in-Gate : goal.returns-in-Gate
-returns-in-Gate g c =
-    let old = c.args.self.now.session in
-    let mid = c.operate_all.new.self.session in
-    let new = c.discard-in-Err.new.self.session in
-    record {
-      run = ends_so old new c.args.job.now NotRun refl tt (then_on c.args.job.now old mid new [] c.in-Err.ensures.goes (c.discard-in-Err.ensures.goes c.args.job.now));
-      store = c.discard-in-Err.ensures.store ∙ c.in-Err.ensures.store;
-    }
+pub returns-in-Gate-clause-run : goal.returns-in-Gate-clause-run
+returns-in-Gate-clause-run g c chain =
+    let S = HasStoppedWorker (g.G.Gate.answers c.args.self.now.fixed.gate.now) c.args.self.now.fixed.number in
+    let why = c.in-Err.ensures.stopped in
+    stop_run _ c.args.job.now c.args.active chain c.requires.base c.requires.fresh S c.args.self.now.session c.operate_all.new.self.session c.discard-in-Err.new.self.session c.operate_all.new.active Gate why.0
+    c.in-Err.ensures.same why.1 (subst (λ stop. IsStopOf S c.args.self.now.session.number c.args.job.now c.args.active stop why.0) c.in-Gate.is why.2) c.discard-in-Err.ensures.went
 
-pub returns-in-Failed : goal.returns-in-Failed
-returns-in-Failed g c =
-    let old = c.args.self.now.session in
-    let mid = c.operate_all.new.self.session in
-    let new = c.discard-in-Err.new.self.session in
-    let own = failed_so old.tape c.args.job.now c.args.active c.in-Err.stop c.in-Failed.op c.in-Failed.error c.requires.fresh c.in-Failed.is c.in-Err.ensures.failed in
-    record {
-      run = ends_so old new c.args.job.now (Failed c.in-Failed.op c.in-Failed.error) refl own (then_on c.args.job.now old mid new [] c.in-Err.ensures.goes (c.discard-in-Err.ensures.goes c.args.job.now));
-      store = c.discard-in-Err.ensures.store ∙ c.in-Err.ensures.store;
-    }
+pub returns-in-Failed-clause-run : goal.returns-in-Failed-clause-run
+returns-in-Failed-clause-run g c chain =
+    let S = HasStoppedWorker (g.G.Gate.answers c.args.self.now.fixed.gate.now) c.args.self.now.fixed.number in
+    let why = c.in-Err.ensures.stopped in
+    stop_run _ c.args.job.now c.args.active chain c.requires.base c.requires.fresh S c.args.self.now.session c.operate_all.new.self.session c.discard-in-Err.new.self.session c.operate_all.new.active (Failed c.in-Failed.op c.in-Failed.error) why.0
+    c.in-Err.ensures.same why.1 (subst (λ stop. IsStopOf S c.args.self.now.session.number c.args.job.now c.args.active stop why.0) c.in-Failed.is why.2) c.discard-in-Err.ensures.went

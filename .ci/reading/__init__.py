@@ -1,0 +1,1 @@
+"""The subcommands of `.ci/tree`, and what they share of the sources."""

@@ -1,0 +1,68 @@
+package cluster
+
+import (
+	"context"
+	"crypto/rand"
+	"encoding/hex"
+	"fmt"
+	"strings"
+
+	"pibroulez.example/pibroulez"
+)
+
+// The identity of a store is a namespace of it, of this beginning and 32 hexadecimal digits, and with a limit of 0/0, so
+// that it never has a snapshot. It is in the first line of the log, which makes the store: no store is without it, none
+// gets another one, and it goes where the log goes.
+const identityBegin = "pibroulez-store-"
+
+// Namespaces are what a new store of a cluster is opened with: each tenant, with a limit of 0/0, and a new identity. A
+// store has at most 64 namespaces, so at most 63 tenants.
+func Namespaces(tenants ...string) (map[string]Usage, error) {
+	var bits [16]byte
+	if _, err := rand.Read(bits[:]); err != nil {
+		return nil, err
+	}
+	namespaces := map[string]Usage{identityBegin + hex.EncodeToString(bits[:]): {}}
+	for _, it := range tenants {
+		if strings.HasPrefix(it, identityBegin) {
+			return nil, fmt.Errorf("%w: tenant %q", ErrNoIdentity, it)
+		}
+		namespaces[it] = Usage{}
+	}
+	return namespaces, nil
+}
+
+// OpenOrNew has the store back that config.Log tells, as pibroulez.OpenOrNew does, or opens a new one for these tenants,
+// with an identity of its own. config.Namespaces isn't read.
+func OpenOrNew(ctx context.Context, config pibroulez.Config, tenants ...string) (*pibroulez.Store, error) {
+	namespaces, err := Namespaces(tenants...)
+	if err != nil {
+		return nil, err
+	}
+	config.Namespaces = namespaces
+	if config.Log == "" {
+		return pibroulez.New(ctx, config)
+	}
+	return pibroulez.OpenOrNew(ctx, config)
+}
+
+// The identity of a store, and its tenants.
+func identityOf(quotas map[string]pibroulez.Quota) (string, []string, error) {
+	var found, tenants []string
+	for _, name := range sorted(quotas) {
+		if id := strings.TrimPrefix(name, identityBegin); id != name {
+			found = append(found, id)
+		} else {
+			tenants = append(tenants, name)
+		}
+	}
+	if len(found) != 1 || !isIdentity(found[0]) {
+		return "", nil, fmt.Errorf("%w: %q", ErrNoIdentity, found)
+	}
+	return found[0], tenants, nil
+}
+
+func isIdentity(text string) bool {
+	bits, err := hex.DecodeString(text)
+	return err == nil && len(bits) == 16 && strings.ToLower(text) == text
+}

@@ -1,0 +1,473 @@
+package cluster
+
+import (
+	"context"
+	"errors"
+	"math/rand"
+	"sync"
+	"sync/atomic"
+	"time"
+
+	"pibroulez.example/pibroulez"
+)
+
+// A tenant on this node. Who has its turn may change the store's own limit and its grant: so there is at most one
+// transaction whose answer is waited for. Those whose answer never came are voided by the next write of the grant.
+type tenant struct {
+	name string
+	turn chan struct{}
+
+	// Of who has the turn.
+
+	known known
+	// The grant that etcd has answered to be written, where the store's own limit wasn't lowered since, and no other
+	// transaction was sent.
+	written Usage
+	// Whether the grant may be another than the store's own limit, as where an answer never came.
+	isDirty bool
+	// Whether a settle has been answered since the agent began, and whether this process has written the grant.
+	isSettled, isWriter bool
+	// The number of the last transaction.
+	number uint64
+	// That etcd was away when a charge last asked for more, and when it had found out.
+	away   error
+	missed time.Time
+
+	// The last revision of the tenant's record that the watch has told.
+	seen atomic.Int64
+	// When a charge was last made, in nanoseconds since 1970.
+	charged atomic.Int64
+	// Whether the store joined only now, so that nothing was granted before.
+	isNew atomic.Bool
+	// Wakes who keeps the tenant.
+	work chan struct{}
+	// How many other stores wait for room.
+	others atomic.Int64
+
+	mutex sync.Mutex
+	// What charges that have got their room are about to take, and how many wait for room.
+	reserved Usage
+	waits    int
+	granted  Usage
+	// Is closed and made anew where the tenant's record has changed.
+	moved chan struct{}
+}
+
+func newTenant(name string) *tenant {
+	return &tenant{
+		name: name, turn: make(chan struct{}, 1), isDirty: true, work: make(chan struct{}, 1), moved: make(chan struct{}),
+	}
+}
+
+// Takes the turn, or ends with the context.
+func (t *tenant) take(ctx context.Context) error {
+	select {
+	case t.turn <- struct{}{}:
+		return nil
+	case <-ctx.Done():
+		return ctx.Err()
+	}
+}
+
+func (t *tenant) leave() { <-t.turn }
+
+func (t *tenant) wake() {
+	select {
+	case t.work <- struct{}{}:
+	default:
+	}
+}
+
+// A change of the tenant's record, which the watch has told.
+func (t *tenant) change(revision int64) {
+	if revision > t.seen.Load() {
+		t.seen.Store(revision)
+	}
+	t.mutex.Lock()
+	close(t.moved)
+	t.moved = make(chan struct{})
+	t.mutex.Unlock()
+}
+
+func (t *tenant) changes() <-chan struct{} {
+	t.mutex.Lock()
+	defer t.mutex.Unlock()
+	return t.moved
+}
+
+func (t *tenant) reserve(more Usage) {
+	t.mutex.Lock()
+	defer t.mutex.Unlock()
+	t.reserved = plus(t.reserved, more)
+}
+
+func (t *tenant) release(less Usage) {
+	t.mutex.Lock()
+	defer t.mutex.Unlock()
+	t.reserved = minus(t.reserved, less)
+}
+
+func (t *tenant) reservation() Usage {
+	t.mutex.Lock()
+	defer t.mutex.Unlock()
+	return t.reserved
+}
+
+func (t *tenant) setGranted(to Usage) {
+	t.mutex.Lock()
+	defer t.mutex.Unlock()
+	t.granted = to
+}
+
+// How often a step is tried again for what others do meanwhile.
+const tries = 8
+
+var (
+	// The pool and what this store could give back don't cover what is needed.
+	errShort = errors.New("the cluster has no room now")
+	// The store's own limit would be raised above what etcd has answered to be written. It never comes.
+	errNotWritten = errors.New("the grant isn't written")
+	// A grant would be written that may not be. It never comes either.
+	errNotGranted = errors.New("the grant may not be written")
+)
+
+// Has room for a call that was refused, and makes it again, as long as patience lasts. Room that was had is reserved until
+// the call has ended.
+func (a *Agent) obtain(ctx context.Context, t *tenant, need Usage, call func(context.Context) error) error {
+	deadline := time.Now().Add(a.config.Patience)
+	for try := 0; ; try++ {
+		if err := a.raise(ctx, t, need, deadline); err != nil {
+			return a.refused(ctx, t, need, err)
+		}
+		err := a.callReserved(ctx, t, need, call)
+		if !errors.Is(err, pibroulez.ErrOverLimit) {
+			return err
+		}
+		// Another caller took it who didn't ask the agent, or the call needs more than it says.
+		if try == tries {
+			return a.refused(ctx, t, need, errShort)
+		}
+	}
+}
+
+func (a *Agent) callReserved(ctx context.Context, t *tenant, need Usage, call func(context.Context) error) error {
+	defer t.release(need)
+	t.charged.Store(time.Now().UnixNano())
+	return call(ctx)
+}
+
+// Raises the store's own limit so that `need` is free beside what is reserved, and reserves it.
+func (a *Agent) raise(ctx context.Context, t *tenant, need Usage, deadline time.Time) error {
+	moved, begin := t.changes(), time.Now()
+	err := a.raiseOnce(ctx, t, need, begin)
+	if err != errShort || a.config.Patience < 0 {
+		return err
+	}
+	withdraw := a.wait(ctx, t, need)
+	defer withdraw()
+	patience := time.NewTimer(time.Until(deadline))
+	defer patience.Stop()
+	for isLast := false; ; {
+		if err = a.raiseOnce(ctx, t, need, begin); err != errShort || isLast {
+			return err
+		}
+		select {
+		case <-moved:
+			moved = t.changes()
+		case <-patience.C:
+			isLast = true
+		case <-a.ended:
+			return a.end
+		case <-a.ctx.Done():
+			return ErrClosed
+		case <-ctx.Done():
+			return ctx.Err()
+		}
+	}
+}
+
+// Does that once, for a charge that has begun then.
+func (a *Agent) raiseOnce(ctx context.Context, t *tenant, need Usage, begin time.Time) (err error) {
+	if err := t.take(ctx); err != nil {
+		return err
+	}
+	defer t.leave()
+	defer func() {
+		if errors.Is(err, EtcdAway) {
+			t.away, t.missed = err, time.Now()
+		}
+	}()
+	for losses := 0; ; losses++ {
+		a.backOff(losses)
+		if losses > 0 && time.Since(begin) > a.config.Patience+a.config.Timeout {
+			return ErrBusy
+		}
+		quota, err := a.config.Store.Quota(ctx, t.name)
+		if err != nil {
+			return err
+		}
+		lacks := minus(plus(need, t.reservation()), quota.Free)
+		if lacks == (Usage{}) {
+			// Another charge's batch was enough.
+			t.reserve(need)
+			return nil
+		}
+		if a.isDrained.Load() {
+			return ErrDrained
+		}
+		if t.missed.After(begin) {
+			// Another charge has found out meanwhile.
+			return t.away
+		}
+		if err := a.know(ctx, t, quota.Limit); err != nil {
+			return err
+		}
+		to, err := a.next(t, quota, lacks)
+		if err == errShort {
+			// Nobody gets anything where each waits with what it doesn't use in hand.
+			if e := a.lower(ctx, t, Usage{}); e != nil {
+				return e
+			}
+		}
+		if err != nil {
+			return err
+		}
+		err = a.grantAndSet(ctx, t, to, quota.Limit)
+		if err == nil {
+			t.reserve(need)
+		}
+		if err != errLost {
+			return err
+		}
+	}
+}
+
+// The grant to ask for.
+func (a *Agent) next(t *tenant, quota pibroulez.Quota, lacks Usage) (Usage, error) {
+	extra := a.config.Batch
+	if local, isThere := a.config.Local[t.name]; isThere {
+		room := minus(local, quota.Limit)
+		if !covers(room, lacks) {
+			return Usage{}, ErrLocalLimit
+		}
+		extra = smaller(extra, minus(room, lacks))
+	}
+	share := a.config.Share
+	if share == 0 {
+		share = 2 * uint64(a.stores.Load())
+	}
+	to, isEnough := viewsOf(t.known.tenant, t.known.grant.Grant, quota.Limit).next(lacks, extra, share)
+	if !isEnough {
+		return Usage{}, errShort
+	}
+	return to, nil
+}
+
+// Has etcd grant `to`, always by a write, and then raises the store's own limit to that. The turn is had.
+func (a *Agent) grantAndSet(ctx context.Context, t *tenant, to, bound Usage) error {
+	if a.config.isUnwritten && covers(t.known.grant.Grant, to) {
+		t.written = t.known.grant.Grant
+	} else if err := a.write(ctx, t, to, bound); err != nil {
+		return err
+	}
+	t.isDirty = true
+	if !mayRaise(t.written, to) {
+		return errNotWritten
+	}
+	if err := a.setBound(ctx, t, to); err != nil {
+		return err
+	}
+	t.isDirty = t.known.grant.Grant != to
+	a.count(func(m *Metrics) { m.Raises++ })
+	return nil
+}
+
+// Sets the store's own limit. Its log has it once that is answered.
+func (a *Agent) setBound(ctx context.Context, t *tenant, to Usage) error {
+	a.config.note(event{Kind: limiting, Tenant: t.name, To: to})
+	err := a.config.Store.Limit(ctx, t.name, to)
+	if err == nil || errors.Is(err, pibroulez.ErrBelowCharge) {
+		a.config.note(event{Kind: limited, Tenant: t.name, To: to})
+	}
+	return err
+}
+
+// Knows the tenant's record and the store's grant, by a read where the watch has told of a later record, or an answer
+// didn't come. It ends where the store's own limit is above its grant, or another process has written that.
+func (a *Agent) know(ctx context.Context, t *tenant, bound Usage) error {
+	if !t.known.isFresh || t.seen.Load() > t.known.tenantRev {
+		a.count(func(m *Metrics) { m.Reads++ })
+		err := a.ask(ctx, func(ctx context.Context) error { return a.read(ctx, a.store, t.name, &t.known) })
+		if err != nil {
+			return a.look(err)
+		}
+	}
+	return a.compare(t, bound)
+}
+
+func (a *Agent) compare(t *tenant, bound Usage) error {
+	k := &t.known
+	t.setGranted(k.grant.Grant)
+	if t.isWriter && k.grantRev != 0 && k.grant.By != a.process {
+		return a.finish(&StateError{State: Copied, Tenant: t.name})
+	}
+	if !viewsOf(k.tenant, k.grant.Grant, bound).isSound() {
+		return a.finish(&StateError{State: LimitAboveGrant, Tenant: t.name, Limit: bound, Grant: k.grant.Grant})
+	}
+	return nil
+}
+
+// Writes the grant, of a store with this limit of its own. Where it is errLost, what is known is as it is now.
+func (a *Agent) write(ctx context.Context, t *tenant, to, bound Usage) error {
+	if !viewsOf(t.known.tenant, t.known.grant.Grant, bound).mayGrant(to) {
+		return errNotGranted
+	}
+	t.number++
+	t.written = Usage{}
+	record := grantRecord{to, a.process, t.number}
+	a.config.note(event{Kind: sending, Tenant: t.name, To: to, Number: t.number})
+	err := a.ask(ctx, func(ctx context.Context) error {
+		return a.grant(ctx, a.store, t.name, &t.known, record)
+	})
+	switch {
+	case err == nil:
+		a.config.note(event{Kind: answered, Tenant: t.name, To: to, Number: t.number})
+		t.isWriter, t.written = true, to
+		t.setGranted(to)
+		return nil
+	case err == errLost:
+		a.count(func(m *Metrics) { m.LostCompares++ })
+		return err
+	case !isAnswer(err):
+		// It may have been written, or may still be.
+		t.isDirty = true
+		a.count(func(m *Metrics) { m.Unanswered++ })
+	}
+	return a.look(err)
+}
+
+// Gives back what is neither charged, nor reserved, nor to be kept: the store's own limit first. The turn is had.
+func (a *Agent) lower(ctx context.Context, t *tenant, keep Usage) error {
+	for try := 0; try < tries; try++ {
+		quota, err := a.config.Store.Quota(ctx, t.name)
+		if err != nil {
+			return err
+		}
+		to := lowered(quota.Limit, quota.Charged, plus(keep, t.reservation()))
+		if to == quota.Limit {
+			if t.isDirty {
+				return a.settle(ctx, t)
+			}
+			return nil
+		}
+		// From now on no limit is raised without a write.
+		t.written, t.isDirty = Usage{}, true
+		err = a.setBound(ctx, t, to)
+		if errors.Is(err, pibroulez.ErrBelowCharge) {
+			continue
+		}
+		if err != nil {
+			return err
+		}
+		a.count(func(m *Metrics) { m.Lowerings++ })
+		return a.settle(ctx, t)
+	}
+	return nil
+}
+
+// Sets the grant to the store's own limit. The turn is had.
+func (a *Agent) settle(ctx context.Context, t *tenant) error {
+	for losses := 0; ; losses++ {
+		a.backOff(losses)
+		quota, err := a.config.Store.Quota(ctx, t.name)
+		if err != nil {
+			return err
+		}
+		if err := a.know(ctx, t, quota.Limit); err != nil {
+			if errors.Is(err, ErrNoTenant) && quota.Limit == (Usage{}) {
+				a.settledOne(t)
+			}
+			return err
+		}
+		isNothing := t.isNew.Load() && t.known.grantRev == 0 && quota.Limit == (Usage{})
+		if isNothing {
+			a.settledOne(t)
+			return nil
+		}
+		err = a.write(ctx, t, viewsOf(t.known.tenant, t.known.grant.Grant, quota.Limit).settled(), quota.Limit)
+		if err == nil {
+			a.count(func(m *Metrics) { m.Settles++ })
+			a.settledOne(t)
+		}
+		if err != errLost {
+			return err
+		}
+		if err := a.compare(t, quota.Limit); err != nil {
+			return err
+		}
+	}
+}
+
+func (a *Agent) settledOne(t *tenant) {
+	t.isDirty = false
+	if t.isSettled {
+		return
+	}
+	t.isSettled = true
+	if a.unsettled.Add(-1) == 0 {
+		close(a.settled)
+		a.tell()
+	}
+}
+
+// Waits a moment, and the longer the more compares were lost.
+func (a *Agent) backOff(losses int) {
+	if losses < 2 {
+		return
+	}
+	if losses > 6 {
+		losses = 6
+	}
+	a.sleep(time.Duration(rand.Int63n(int64(time.Millisecond) << losses)))
+}
+
+// Keeps a tenant: settles it, and gives back what isn't used.
+func (a *Agent) keep(t *tenant) {
+	timer := time.NewTicker(a.config.tick)
+	defer timer.Stop()
+	var rested time.Time
+	for a.isAlive() {
+		select {
+		case <-timer.C:
+		case <-t.work:
+		case <-a.ctx.Done():
+			return
+		case <-a.ended:
+			return
+		}
+		if !a.isJoined.Load() || t.take(a.ctx) != nil {
+			continue
+		}
+		rested = a.tend(t, rested)
+		t.leave()
+	}
+}
+
+// One round of that. Where it fails the next one does it. rested is when the store, as an idle one, last gave back what it
+// doesn't use.
+func (a *Agent) tend(t *tenant, rested time.Time) time.Time {
+	t.mutex.Lock()
+	waits := t.waits
+	t.mutex.Unlock()
+	isIdle := func(since time.Time) bool { return a.config.Idle > 0 && time.Since(since) > a.config.Idle }
+	switch {
+	case a.isDrained.Load() || t.others.Load() > 0 && a.config.Patience >= 0:
+		a.lower(a.ctx, t, Usage{})
+	case t.isDirty:
+		a.settle(a.ctx, t)
+	case waits == 0 && isIdle(time.Unix(0, t.charged.Load())) && isIdle(rested):
+		a.lower(a.ctx, t, a.config.Batch)
+		return time.Now()
+	}
+	return rested
+}

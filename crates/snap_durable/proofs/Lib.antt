@@ -1,0 +1,3 @@
+pub mod ServeLaws
+pub mod BatchLaws
+pub mod CameLaws

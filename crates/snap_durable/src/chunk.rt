@@ -1,0 +1,17 @@
+// How an input is read.
+ghost use Rattle.std.specs.Prelude.{◌<◌, length, IfOk};
+
+use std::alloc::{AllocError, Global};
+
+// The most reads, more than there will be.
+pub(crate) const READS: u64 = u64::MAX;
+
+// A read takes at most so many bytes.
+const CHUNK: usize = 65_536;
+
+// Room for a read.
+pub(crate) fn chunk(alloc: Global) -> Result<Vec<u8>, AllocError>
+    ensures { IfOk result (λ v. 0 < length v.items) }
+{
+    vec![in alloc; 0u8; CHUNK]
+}

@@ -1,0 +1,6 @@
+use Rattle.std.proofs.Common.{◌≡◌, drop}
+use Rattle.snap_log.specs.Batches.{batched}
+use Rattle.snap_log.proofs.batch.Batch.take.Given as goal
+
+abbrev pub invariant-loop-b : goal.invariant-loop-b
+invariant-loop-b g l = batched g.C.ChangeTest.changes l.self (drop l.b-index l.bytes) ≡ batched g.C.ChangeTest.changes l.initial.self l.bytes
