@@ -316,6 +316,27 @@ func TestRuleAQuantityDoesntWaitForTheOther(t *testing.T) {
 	w.check()
 }
 
+// A refusal is by what was read after the charge began, also where the watch is late and nothing is waited for.
+func TestRuleALateWatchRefusesNothing(t *testing.T) {
+	w := newWorld(t)
+	w.limit("a", 100, 100)
+	one := w.node("one", func(c *Config) { c.Batch = usage(1, 1) }).settle()
+	must(0, one.take("a", "k", usage(50, 10)))(t)
+	known := one.tenants["a"].known.tenantRev
+	w.limit("a", 200, 200)
+	until(t, "the change at the watch", func() bool { return one.tenants["a"].seen.Load() > known })
+	// As if the watch hadn't told.
+	one.tenants["a"].seen.Store(0)
+	before := must(one.Metrics(ctx))(t)
+	must(0, one.take("a", "l", usage(120, 1)))(t)
+	equal(t, must(one.Metrics(ctx))(t).Reads, before.Reads+1)
+	// What is refused was read once.
+	one.tenants["a"].seen.Store(0)
+	isError(t, one.take("a", "m", usage(120, 1)), pibroulez.ErrOverLimit)
+	equal(t, must(one.Metrics(ctx))(t).Reads, before.Reads+2)
+	w.check()
+}
+
 func isError(t *testing.T, err, want error) {
 	t.Helper()
 	if !errors.Is(err, want) {

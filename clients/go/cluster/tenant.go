@@ -197,7 +197,7 @@ func (a *Agent) raiseOnce(ctx context.Context, t *tenant, need Usage, begin time
 			t.away, t.missed = err, time.Now()
 		}
 	}()
-	for losses := 0; ; losses++ {
+	for losses, isLatest := 0, false; ; losses++ {
 		a.backOff(losses)
 		if losses > 0 && time.Since(begin) > a.config.Patience+a.config.Timeout {
 			return ErrBusy
@@ -219,10 +219,17 @@ func (a *Agent) raiseOnce(ctx context.Context, t *tenant, need Usage, begin time
 			// Another charge has found out meanwhile.
 			return t.away
 		}
-		if err := a.know(ctx, t, quota.Limit); err != nil {
+		isRead, err := a.know(ctx, t, quota.Limit)
+		if err != nil {
 			return err
 		}
+		isLatest = isLatest || isRead
 		to, err := a.next(t, quota, lacks)
+		if err == errShort && !isLatest {
+			// The watch may tell late of room. A refusal is by what etcd has answered since the charge began.
+			t.known.isFresh = false
+			continue
+		}
 		if err == errShort {
 			// Nobody gets anything where each waits with what it doesn't use in hand.
 			if e := a.lower(ctx, t, Usage{}); e != nil {
@@ -239,6 +246,7 @@ func (a *Agent) raiseOnce(ctx context.Context, t *tenant, need Usage, begin time
 		if err != errLost {
 			return err
 		}
+		isLatest = true
 	}
 }
 
@@ -293,16 +301,18 @@ func (a *Agent) setBound(ctx context.Context, t *tenant, to Usage) error {
 }
 
 // Knows the tenant's record and the store's grant, by a read where the watch has told of a later record, or an answer
-// didn't come. It ends where the store's own limit is above its grant, or another process has written that.
-func (a *Agent) know(ctx context.Context, t *tenant, bound Usage) error {
+// didn't come. It ends where the store's own limit is above its grant, or another process has written that. Whether it has
+// read.
+func (a *Agent) know(ctx context.Context, t *tenant, bound Usage) (isRead bool, err error) {
 	if !t.known.isFresh || t.seen.Load() > t.known.tenantRev {
 		a.count(func(m *Metrics) { m.Reads++ })
 		err := a.ask(ctx, func(ctx context.Context) error { return a.read(ctx, a.store, t.name, &t.known) })
 		if err != nil {
-			return a.look(err)
+			return true, a.look(err)
 		}
+		isRead = true
 	}
-	return a.compare(t, bound)
+	return isRead, a.compare(t, bound)
 }
 
 func (a *Agent) compare(t *tenant, bound Usage) error {
@@ -383,7 +393,7 @@ func (a *Agent) settle(ctx context.Context, t *tenant) error {
 		if err != nil {
 			return err
 		}
-		if err := a.know(ctx, t, quota.Limit); err != nil {
+		if _, err := a.know(ctx, t, quota.Limit); err != nil {
 			if errors.Is(err, ErrNoTenant) && quota.Limit == (Usage{}) {
 				a.settledOne(t)
 			}
