@@ -11,3 +11,4 @@ pub mod Copies
 pub mod Layers
 pub mod Both
 pub mod Undoing
+pub mod Chained

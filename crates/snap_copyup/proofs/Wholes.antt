@@ -13,6 +13,9 @@ use Rattle.snap_layer.specs.Counts.{is_within}
 use Rattle.snap_layer.specs.Layers.{IsLayer, IsWhole, IsFile, IsSymlink, is_target}
 use Rattle.snap_layer.specs.Edits.{IsFree}
 use Rattle.snap_merge.specs.Objects.{Object, dir, file, symlink, seen, seen_over, shown, shown_body, AreLayers}
+use Rattle.snap_layer.specs.declared.error.LayerError.{LayerError}
+use Rattle.snap_layer.specs.declared.error.LayerError.TheVariants as layer_errors
+use Rattle.snap_merge.specs.Errors.{OfLayer}
 use Rattle.snap_merge.specs.declared.error.FsError.{FsError}
 use Rattle.snap_copyup.specs.Copying.{below}
 use Rattle.snap_copyup.specs.Places.{IsFreePlace, IsRefusal}
@@ -73,3 +76,9 @@ refused_later e v t full (inr many) = inr (many.0, full many.1)
 pub IfErr-refused : {A : Type 0} (r : Result A FsError) (x : FsError) (v t : Tree) → IsErrAnd r (λ e. e ≡ x) → (is_within v ≡ false → is_within t ≡ false) → IsRefusal v x → IfErr r (λ e. IsRefusal t e)
 IfErr-refused (Ok y) x v t same full of = absurd same
 IfErr-refused (Err e) x v t same full of = refused_later e v t full (subst (IsRefusal v) (sym same) of)
+
+-- why an edit was not made is why a layer with the same limits was not
+pub edit_refused : {A : Type 0} (r : Result A FsError) (x : LayerError) (v t : Tree) → IsErrAnd r (λ e. OfLayer x e) → (x ≡ layer_errors.LayerFull → is_within v ≡ false) → v ≡ t → IfErr r (λ e. IsRefusal t e)
+edit_refused (Ok y) x v t of full same = absurd of
+edit_refused (Err e) layer_errors.LayerFull v t of full same = inr (of, subst (λ (z : Tree). is_within z ≡ false) same (full refl))
+edit_refused (Err e) (layer_errors.OutOfMemory want) v t of full same = inl of

@@ -1,15 +1,16 @@
 // The directories above a path that a layer doesn't have, and what is put at the path once they stand.
-ghost use Rattle.std.specs.Prelude.{◌≡◌, ◌∷◌, ◌+◌, ◌<◌, ◌≤◌, List, OnOk, OnErr, IfErr, None, length, take, drop, true};
+ghost use Rattle.std.specs.Prelude.{◌≡◌, ◌∷◌, ◌+◌, ◌-◌, ◌<◌, ◌≤◌, List, OnOk, OnErr, IfErr, None, length, take};
 ghost use Rattle.snap_path.specs.Text.{Names};
 ghost use Rattle.snap_layer.specs.Layers.{IsLayer};
-ghost use Rattle.snap_layer.specs.Tree.{Tree, at};
-ghost use Rattle.snap_merge.specs.Objects.{seen, is_shown_dir, AreLayers};
-ghost use Rattle.snap_merge.specs.Walk.{walk_error, walk_from};
-ghost use Rattle.snap_copyup.specs.Copying.{copied, with_parents, with_parents_from};
+ghost use Rattle.snap_layer.specs.Tree.{Tree};
+ghost use Rattle.snap_merge.specs.Objects.{seen, AreLayers};
+ghost use Rattle.snap_merge.specs.Walk.{walk_error};
+ghost use Rattle.snap_copyup.specs.Copying.{with_parents};
+ghost use Rattle.snap_copyup.specs.Undoing.{fronts, Undoes};
 ghost use Rattle.snap_copyup.specs.Places.{with_last, CanStand, IsRefusal, ParentStands, StandsAbove, TakesMore};
 
 use snap_layer::{Bytes, Content, Layer, Shared};
-use snap_merge::{FsError, Seen, Stack, show_are_layers};
+use snap_merge::{FsError, Stack, show_are_layers};
 use snap_path::{Name, Path};
 
 /// What is put at a path, once the directories above it stand.
@@ -34,8 +35,9 @@ pub enum Last {
 /// first, so that `Stack::walk` finds no error. `LayerFull` where the layer would have more inodes than it
 /// may. `OutOfMemory` where memory for a path or an entry is refused. After either the layer is as it
 /// was: what had been added is taken back, which takes no memory. Cost: a walk to the path in the layer, as far as
-/// it has a node. For each directory that is missing also a walk to it, a look at it through the lower layers, and the
-/// text of its path; the calls then nest as deep as directories are missing.
+/// it has a node. Where a directory is missing also a walk to the path in each lower layer, and two more in the layer;
+/// calls then nest as deep as directories are missing. Where memory for what `put` puts last is refused, one more walk
+/// in the layer for each directory that is taken back.
 pub fn ensure_dirs(layer: &mut Layer, lowers: &[Shared], path: &Path) -> Result<(), FsError>
     requires { walk_error (layer.old ∷ lowers.now) path.now ≡ None }
     ensures ok { OnOk result (layer.new ≡ with_parents layer.old lowers.now path.now) }
@@ -65,42 +67,50 @@ pub fn put(layer: &mut Layer, lowers: &[Shared], path: &Path, last: Last) -> Res
     ensures unchanged { OnErr result (layer.new ≡ layer.old) }
 {
     show_are_layers(lowers);
-    let names = standing_dirs(layer, path);
-    put_from(layer, lowers, path, names, last)
+    let first = standing_dirs(layer, path);
+    if first == path.names().len() {
+        return put_last(layer, path, last);
+    }
+    add_missing(layer, lowers, path, first)?;
+    match put_last(layer, path, last) {
+        Ok(()) => Ok(()),
+        Err(error) => {
+            take_dirs(layer, path, first);
+            Err(error)
+        }
+    }
 }
 
-/// Does what `put` does, where the directories of fewer names stand, and that of so many is missing, if it is
-/// above the path. Where it fails later, it takes back what it has added.
-fn put_from(
+/// Adds the directories above the path that the layer doesn't have, of which that of so many names is the first.
+fn add_missing(
     layer: &mut Layer,
     lowers: &[Shared],
     path: &Path,
-    names: usize,
-    last: Last,
+    first: usize,
 ) -> Result<(), FsError>
-    requires within { names ≤ length path.now }
     requires layers { AreLayers lowers.now }
     requires layer { IsLayer layer.old }
-    requires way { walk_from (layer.old ∷ lowers.now) (take names path.now) (drop names path.now) ≡ None }
-    requires parent { ParentStands layer.old (take names path.now) }
-    requires missing { names < length path.now → at layer.old (take names path.now) ≡ None }
-    requires fit { CanStand last layer.old path.now }
-    ensures ok { OnOk result (layer.new ≡ with_last last (with_parents_from layer.old lowers.now (take names path.now) (drop names path.now)) path.now) }
+    requires way { walk_error (layer.old ∷ lowers.now) path.now ≡ None }
+    requires above { StandsAbove layer.old path.now first }
+    requires missing { first < length path.now }
+    ensures ok { OnOk result (layer.new ≡ with_parents layer.old lowers.now path.now) }
     ensures layer { OnOk result (IsLayer layer.new) }
-    ensures error { IfErr result (λ e. IsRefusal (with_last last (with_parents_from layer.old lowers.now (take names path.now) (drop names path.now)) path.now) e) }
+    ensures error { IfErr result (λ e. IsRefusal (with_parents layer.old lowers.now path.now) e) }
     ensures unchanged { OnErr result (layer.new ≡ layer.old) }
 {
-    if names == path.names().len() {
-        return put_last(layer, path, last);
-    }
-    let front = path.front(names)?;
-    put_parent(layer, lowers, &front)?;
-    match put_from(layer, lowers, path, names + 1, last) {
-        Ok(()) => return Ok(()),
-        Err(error) => {
-            layer.take_name(&front);
-            return Err(error);
-        }
+    let modes = Stack::of(lowers).modes(layer.alloc(), path, first)?;
+    layer.add_dirs(path, first - 1, &modes)?;
+    Ok(())
+}
+
+/// Takes the directories above the path, the lowest first, down to that of so many names.
+fn take_dirs(layer: &mut Layer, path: &Path, first: usize)
+    requires within { first ≤ length path.now }
+    requires undo { (u : Tree) × Undoes (fronts path.now first (length path.now - first)) layer.old u }
+    ensures { (u : Tree) → Undoes (fronts path.now first (length path.now - first)) layer.old u → layer.new ≡ u }
+{
+    for names in (first..path.names().len()).rev() {
+        layer.take_front(path, names);
     }
 }
 
@@ -126,31 +136,6 @@ pub(crate) fn put_last(layer: &mut Layer, path: &Path, last: Last) -> Result<(),
         Last::Whiteout => layer.add_whiteout(path)?,
     }
     Ok(())
-}
-
-/// Adds the directory that is seen at the path, where the layer has no node, with its mode.
-#[tactic(auto, using(crate::proofs::Alone::below_unhidden))]
-pub(crate) fn put_parent(layer: &mut Layer, lowers: &[Shared], path: &Path) -> Result<(), FsError>
-    requires layers { AreLayers lowers.now }
-    requires layer { IsLayer layer.old }
-    requires nothing { at layer.old path.now ≡ None }
-    requires parent { ParentStands layer.old path.now }
-    requires seen { is_shown_dir (seen (layer.old ∷ lowers.now) path.now) ≡ true }
-    ensures ok { OnOk result (layer.new ≡ copied layer.old lowers.now path.now) }
-    ensures layer { OnOk result (IsLayer layer.new) }
-    ensures error { IfErr result (λ e. IsRefusal (copied layer.old lowers.now path.now) e) }
-    ensures unchanged { OnErr result (layer.new ≡ layer.old) }
-{
-    // The layer has no node there and hides nothing, since a directory is seen.
-    match Stack::of(lowers).look(path) {
-        Some(Seen::Dir { mode }) => {
-            let opaque = false;
-            put_last(layer, path, Last::Dir { mode, opaque })
-        }
-        Some(Seen::File { .. }) => Ok(()),
-        Some(Seen::Symlink { .. }) => Ok(()),
-        None => Ok(()),
-    }
 }
 
 /// How many directories above the path the layer doesn't have. So many inodes, and as many blocks, it takes

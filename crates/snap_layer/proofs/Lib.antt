@@ -45,3 +45,4 @@ pub mod Ending
 pub mod TreeLayers
 pub mod Below
 pub mod Naming
+pub mod Chains

@@ -21,13 +21,13 @@ use Rattle.snap_layer.proofs.Frames.{split_ℕ, split_name}
 use Rattle.snap_layer.proofs.Makes.{Makes}
 use Rattle.snap_layer.proofs.Beside.{Beside, Leaves, by_walk, IsFresh, table, shows}
 
-no_some : {A : Type 0} (x : A) → None ≡ Some x → ⊥
+pub no_some : {A : Type 0} (x : A) → None ≡ Some x → ⊥
 no_some x e = cc
 
 no_bool : true ≡ false → ⊥
 no_bool e = cc
 
-none_some : {A : Type 0} (o : Option A) → o ≡ None → IsSome o → ⊥
+pub none_some : {A : Type 0} (o : Option A) → o ≡ None → IsSome o → ⊥
 none_some o e some = no_bool (sym some ∙ ap is_some e)
 
 -- ---- what reads alike

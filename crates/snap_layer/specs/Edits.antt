@@ -25,6 +25,12 @@ root_only mode first = root_within default_inodes mode first
 abbrev pub with_entry : Tree → Names → Node → Tree
 with_entry t p n = record t { entries = insert_entry path_cmp t.entries p n }
 
+-- the layer with a directory for each mode, one in the other, at the names that come next after the front
+abbrev pub with_dirs : Tree → Names → Names → List ℕ → Tree
+with_dirs t front [] modes = t
+with_dirs t front (n ∷ names) [] = t
+with_dirs t front (n ∷ names) (mode ∷ modes) = with_dirs (with_entry t (front ++ n ∷ []) (Dir mode false)) (front ++ n ∷ []) names modes
+
 -- the layer with the body under the number
 abbrev pub with_body : Tree → ℕ → Body → Tree
 with_body t k b = record t { bodies = insert_entry nat_cmp t.bodies k b }

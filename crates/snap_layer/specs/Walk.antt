@@ -1,5 +1,5 @@
 -- What stands at each path of a table of inodes, by recursion on the path.
-use Rattle.std.specs.Prelude.{◌≡◌, ℕ, ◌+◌, ◌<◌, ◌≤◌, Bool, if◌then◌else◌, List, [], ◌∷◌, Option, Some, None, IsSome, option_and_then}
+use Rattle.std.specs.Prelude.{◌≡◌, ℕ, ◌+◌, ◌<◌, ◌≤◌, Bool, false, if◌then◌else◌, List, [], ◌∷◌, Option, Some, None, IsSome, option_and_then}
 use Rattle.std.specs.Map.{lookup, remove_entry}
 use Rattle.std.specs.Ordering.{nat_cmp}
 use Rattle.std.specs.Cmp.Lexicographic.{slice_cmp}
@@ -141,6 +141,17 @@ pub record Adds (s t : SlotView) (d : ℕ) (n : List ℕ) (k : ℕ) (v : Node) (
   pub nodes : (c : ℕ) → (c ≡ k → ⊥) → t.nodes c ≡ s.nodes c
   pub bodies : (c : ℕ) → (c ≡ k → ⊥) → t.bodies c ≡ s.bodies c
   pub counts : (c : ℕ) → (c ≡ k → ⊥) → t.counts c ≡ s.counts c
+
+-- t is s with a directory for each mode, one in the other, at the names that come next in the directory d
+abbrev pub AddsDirs : SlotView → SlotView → ℕ → Names → List ℕ → Type 0
+AddsDirs s t d [] modes = Same s t
+AddsDirs s t d (n ∷ names) [] = Same s t
+AddsDirs s t d (n ∷ names) (mode ∷ modes) = (between : SlotView) × (k : ℕ) × Adds s between d n k (node.Dir mode false) None 0 × AddsDirs between t k names modes
+
+-- the directory has nothing at the first of the names
+abbrev pub IsVacantAt : SlotView → ℕ → Names → Type 0
+IsVacantAt s d [] = Unit {0}
+IsVacantAt s d (n ∷ names) = s.entries d n ≡ None
 
 -- what is left at the old place of a move
 abbrev pub left_at : Bool → Option Target

@@ -1,5 +1,6 @@
 // The edits of a layer.
-ghost use Rattle.std.specs.Prelude.{◌≡◌, ◌↔◌, ◌≤◌, ◌-◌, ◌^◌, Some, None, IfOk, OnOk, OnErr, IsErrOf, IsSome, ◌∷◌, [], true, false};
+ghost use Rattle.std.specs.Prelude.{◌≡◌, ◌↔◌, ◌<◌, ◌≤◌, ◌+◌, ◌-◌, ◌^◌, length, take, drop, Some, None, IfOk, OnOk, OnErr, IsErrOf, IsSome, ◌∷◌, [], true, false};
+ghost use Rattle.std.specs.List.{AllByRecursion};
 ghost use Rattle.std.specs.Map.{keys_of};
 ghost use Rattle.snap_path.specs.Limits.{most_mode};
 ghost use Rattle.snap_path.specs.Memory.{no_memory};
@@ -10,14 +11,14 @@ ghost use Rattle.snap_layer.specs.Contents.{body_content, edited, Grows, IsConte
 ghost use Rattle.snap_layer.specs.Totals.{path_count, fits, IsClear, IsRoom};
 ghost use Rattle.snap_layer.specs.Layers.{IsLayer, IsBody, is_target};
 ghost use Rattle.snap_layer.specs.declared.content.Content.{Content as ContentValue};
-ghost use Rattle.snap_layer.specs.Edits.{with_body, with_entry, with_node, with_new, with_name, named_node, with_filled, with_mode, with_opaque, with_moved, with_linked, with_tree_taken, without, without_tree, inside, HasRoom, HasRooms, HasPlace, IsInnerDir, IsTakeable, IsMovable, IsRegular, HasMode};
+ghost use Rattle.snap_layer.specs.Edits.{with_body, with_entry, with_dirs, with_node, with_new, with_name, named_node, with_filled, with_mode, with_opaque, with_moved, with_linked, with_tree_taken, without, without_tree, inside, HasRoom, HasRooms, HasPlace, IsInnerDir, IsTakeable, IsMovable, IsRegular, HasMode};
 
 use super::bytes::Edit;
 use super::content::Content;
 use super::error::LayerError;
 use super::layer::Layer;
 use super::node::{Body, Bytes, Node};
-use super::totals::{Totals, more_paths};
+use super::totals::{Totals, more_paths, paths_with};
 use snap_path::Path;
 use std::alloc::AllocError;
 
@@ -38,6 +39,39 @@ impl Layer {
         let room = self.room_for(path, 0, 1, 1)?;
         self.table.put_dir(path, mode, opaque)?;
         self.totals = room;
+        Ok(())
+    }
+
+    /// Adds a directory for each mode, none of them opaque, at the names of the path that come after so many: the first
+    /// where nothing stands, and each other one in the one before it.
+    ///
+    /// The conditions: a directory stands at the path of the first so many names, and nothing at that of one name more;
+    /// the path has a name for each mode; and each mode is at most octal 7777. `LayerFull` where the layer would have
+    /// more inodes than it may. `OutOfMemory` where memory is refused. After either the layer is as it was: what had
+    /// been added is taken back, which takes no memory. Cost: as `at` for as many names, however many directories are
+    /// added; the calls nest as deep as there are modes.
+    pub fn add_dirs(&mut self, path: &Path, front: usize, modes: &[u32]) -> Result<(), LayerError>
+        requires within { front + length modes.now ≤ length path.now }
+        requires dir { IsDirAt (at self.old (take front path.now)) }
+        requires bare { front < length path.now → at self.old (take (front + 1) path.now) ≡ None }
+        requires modes { AllByRecursion (λ m. m ≤ most_mode) modes.now }
+        ensures ok { OnOk result (self.new ≡ with_dirs self.old (take front path.now) (drop front path.now) modes.now) }
+        ensures layer { OnOk result (IsLayer self.new) }
+        ensures full { IsErrOf result LayerError.LayerFull ↔ (is_within (with_dirs self.old (take front path.now) (drop front path.now) modes.now) ≡ false) }
+        ensures err { OnErr result (self.new ≡ self.old) }
+    {
+        let _ = path.names();
+        let count = modes.len();
+        if count > self.most_inodes() - self.inodes() {
+            return Err(LayerError::LayerFull);
+        }
+        let paths = paths_with(self.totals.paths, count)?;
+        self.table.put_dirs(path, front, modes)?;
+        self.totals = Totals {
+            inodes: self.totals.inodes + count,
+            blocks: self.totals.blocks + count as u64,
+            paths,
+        };
         Ok(())
     }
 
@@ -165,8 +199,21 @@ impl Layer {
         ensures next { self.new ≡ without self.old path.now }
         ensures layer { IsLayer self.new }
     {
-        let left = self.left(path);
-        self.table.take(path);
+        self.take_front(path, path.names().len());
+    }
+
+    /// Takes what stands at the path of the first so many names of a path, as `take_name` does.
+    ///
+    /// The conditions are that the path has as many, and those of `is_takeable` for the path of so many. Takes no
+    /// memory. Cost: as `take_name`.
+    pub fn take_front(&mut self, path: &Path, front: usize)
+        requires within { front ≤ length path.now }
+        requires takeable { IsTakeable self.old (take front path.now) }
+        ensures next { self.new ≡ without self.old (take front path.now) }
+        ensures layer { IsLayer self.new }
+    {
+        let left = self.left_front(path, front);
+        self.table.take_front(path, front);
         self.totals = left;
     }
 

@@ -229,9 +229,22 @@ impl Layer {
         ensures path { IsPath path.now }
         ensures layer { IsLayer self.now }
     {
-        let node = self.at(path);
-        let (dirs, whiteouts) = self.table.tally_inside(path.names(), node);
-        let (files, freed) = self.last_body(path, node);
+        self.left_front(path, path.names().len())
+    }
+
+    /// The same at the path of the first so many names of a path.
+    pub(crate) fn left_front(&self, path: &Path, front: usize) -> Totals
+        requires within { front ≤ length path.now }
+        requires clear { IsClear self.now (take front path.now) }
+        ensures inodes { result.inodes ≡ inode_count (without self.now (take front path.now)) }
+        ensures blocks { result.blocks ≡ block_count (without self.now (take front path.now)) }
+        ensures paths { result.paths ≡ path_count (without self.now (take front path.now)) }
+        ensures few { result.inodes ≤ self.now.most }
+        ensures layer { IsLayer self.now }
+    {
+        let node = self.at_front(path, front);
+        let (dirs, whiteouts) = self.table.tally_inside(&path.names()[..front], node);
+        let (files, freed) = self.last_body(path, front, node);
         let names = names_in(node);
         Totals {
             inodes: self.totals.inodes - dirs - whiteouts - files,
@@ -264,13 +277,13 @@ impl Layer {
         )
     }
 
-    /// The inodes and blocks of the file or symlink that has its last name at the path, where the node stands:
-    /// none where there is none.
-    fn last_body(&self, path: &Path, node: Option<Node>) -> (usize, u64)
-        requires node { node ≡ at self.now path.now }
+    /// The inodes and blocks of the file or symlink that has its last name at the path of the first so many names, where
+    /// the node stands: none where there is none.
+    fn last_body(&self, path: &Path, front: usize, node: Option<Node>) -> (usize, u64)
+        requires node { node ≡ at self.now (take front path.now) }
         requires layer { IsLayer self.now }
-        ensures inodes { length (without self.now path.now).bodies + result.0 ≡ length self.now.bodies }
-        ensures blocks { sum_by body_blocks (values_of (without self.now path.now).bodies) + result.1 ≡ sum_by body_blocks (values_of self.now.bodies) }
+        ensures inodes { length (without self.now (take front path.now)).bodies + result.0 ≡ length self.now.bodies }
+        ensures blocks { sum_by body_blocks (values_of (without self.now (take front path.now)).bodies) + result.1 ≡ sum_by body_blocks (values_of self.now.bodies) }
     {
         let Some(number) = number_in(node) else {
             return (0, 0);

@@ -10,6 +10,7 @@
 #![tactic(auto)]
 
 mod bytes;
+mod chain;
 mod content;
 mod dir;
 mod edit;

@@ -1,14 +1,15 @@
 // A layer as a table of inodes.
-ghost use Rattle.std.specs.Prelude.{[], ◌≡◌, ◌<◌, ◌≤◌, ◌+◌, ◌-◌, ◌^◌, Option, Some, None, OnOk, OnErr, IfOk, IsSome, length, take, find, nat_lt};
+ghost use Rattle.std.specs.Prelude.{[], ◌≡◌, ◌<◌, ◌≤◌, ◌+◌, ◌-◌, ◌^◌, Option, Some, None, OnOk, OnErr, IfOk, IsSome, length, take, drop, find, nat_lt};
 ghost use Rattle.std.specs.Option.{option_copied};
+ghost use Rattle.std.specs.List.{AllByRecursion};
 ghost use Rattle.std.specs.Map.{keys_of};
 ghost use Rattle.snap_path.specs.Limits.{most_mode, most_number};
 ghost use Rattle.snap_layer.specs.Tree.{Tree, at, body, number_at, IsDirAt, leaf_node};
-ghost use Rattle.snap_layer.specs.Counts.{name_count, body_blocks, most_inodes};
+ghost use Rattle.snap_layer.specs.Counts.{inode_count, name_count, body_blocks, most_inodes};
 ghost use Rattle.snap_layer.specs.Contents.{body_content, body_edited, Grows, IsShort};
 ghost use Rattle.snap_path.specs.Text.{IsPath};
 ghost use Rattle.snap_layer.specs.Layers.{IsLayer, IsFile};
-ghost use Rattle.snap_layer.specs.Edits.{root_within, with_body, with_entry, with_node, with_new, without, with_moved, with_file_mode, with_linked, HasPlace, HasRooms, IsTakeable, IsFree, HasParent, IsMovable};
+ghost use Rattle.snap_layer.specs.Edits.{root_within, with_body, with_entry, with_dirs, with_node, with_new, without, with_moved, with_file_mode, with_linked, HasPlace, HasRooms, IsTakeable, IsFree, HasParent, IsMovable};
 ghost use Rattle.snap_layer.specs.declared.node.Body.{Body as BodyValue};
 ghost use Rattle.snap_layer.specs.declared.node.Node.{Node as NodeValue};
 ghost use Rattle.snap_layer.specs.contracts.node.Node as node_contracts;
@@ -19,6 +20,7 @@ pub(crate) mod reads;
 mod same;
 
 use super::bytes::Edit;
+use super::chain::put_dirs;
 use super::dir::Dir;
 use super::edit::{
     body_at, copied, cover, edit_body, links_at, next_place, place_of, put_inode, put_leaf,
@@ -26,7 +28,7 @@ use super::edit::{
 };
 use super::inode::Inode;
 use super::node::{Body, Node};
-use super::walk::{dir_at, entry_at, parent_at, stands};
+use super::walk::{dir_at, entry_at, parent_at, parent_of, stands};
 use slab::Slab;
 use snap_path::Path;
 use std::alloc::{AllocError, Global};
@@ -181,6 +183,21 @@ impl Table {
         put_inode(&mut self.slots, dir, name, inode)
     }
 
+    /// Puts a directory for each mode, one in the other, at the names of the path that come after so many.
+    pub fn put_dirs(&mut self, path: &Path, front: usize, modes: &[u32]) -> Result<(), AllocError>
+        requires within { front ≤ length path.now }
+        requires dir { IsDirAt (at self.old (take front path.now)) }
+        requires bare { front < length path.now → at self.old (take (front + 1) path.now) ≡ None }
+        requires modes { AllByRecursion (λ m. m ≤ most_mode) modes.now }
+        requires few { inode_count self.old + length modes.now ≤ self.old.most }
+        ensures ok { OnOk result (self.new ≡ with_dirs self.old (take front path.now) (drop front path.now) modes.now) }
+        ensures err { OnErr result (self.new ≡ self.old) }
+    {
+        let names = path.names();
+        let dir = dir_at(&self.slots, self.root, &names[..front]);
+        put_dirs(&mut self.slots, self.alloc, dir, &names[front..], modes)
+    }
+
     /// Puts a new file or symlink, which has the next number, in place of what stands at the path.
     pub fn put_leaf(&mut self, path: &Path, body: Body) -> Result<(), AllocError>
         requires place { HasPlace self.old path.now }
@@ -281,7 +298,17 @@ impl Table {
         requires layer { IsLayer (without self.old path.now) }
         ensures { self.new ≡ without self.old path.now }
     {
-        let (dir, name) = parent_at(&self.slots, self.root, path);
+        self.take_front(path, path.names().len());
+    }
+
+    /// The same at the path of the first so many names of a path.
+    pub fn take_front(&mut self, path: &Path, front: usize)
+        requires within { front ≤ length path.now }
+        requires takeable { IsTakeable self.old (take front path.now) }
+        requires layer { IsLayer (without self.old (take front path.now)) }
+        ensures { self.new ≡ without self.old (take front path.now) }
+    {
+        let (dir, name) = parent_of(&self.slots, self.root, &path.names()[..front]);
         take_target(&mut self.slots, &mut self.places, dir, name);
     }
 

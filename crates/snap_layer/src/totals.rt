@@ -25,3 +25,14 @@ pub(crate) fn more_paths(paths: usize, more: usize) -> Result<usize, AllocError>
         None => Err(NoMemory::of_last_address(paths).into()),
     }
 }
+
+/// The number of paths with one more for each of so many. It fails only at the last address.
+pub(crate) fn paths_with(paths: usize, many: usize) -> Result<usize, AllocError>
+    ensures { IfOk result (λ n. n ≡ paths + many) }
+{
+    let mut paths = paths;
+    for _ in 0..many {
+        paths = more_paths(paths, 1)?;
+    }
+    Ok(paths)
+}

@@ -84,7 +84,21 @@ pub(crate) fn parent_at<'a>(slots: &Slab<Inode>, root: usize, path: &'a Path) ->
     ensures dir { IsDirAt (node_at slots.now result.0) }
     ensures path { IsPath path.now }
 {
-    let Some((name, front)) = path.names().split_last() else {
+    parent_of(slots, root, path.names())
+}
+
+/// The same of the path of the names.
+pub(crate) fn parent_of<'a>(
+    slots: &Slab<Inode>,
+    root: usize,
+    names: &'a [Name],
+) -> (usize, &'a Name)
+    requires below_root { names.now ≡ [] → ⊥ }
+    requires parent { (q : Names) (n : List ℕ) → names.now ≡ q ++ n ∷ [] → IsDirAt (stands (view_of slots.now) root q) }
+    ensures leads { (q : Names) × (names.now ≡ q ++ result.1.now ∷ []) × (walk (entry_at slots.now) root q ≡ Some (Target.Inode result.0)) }
+    ensures dir { IsDirAt (node_at slots.now result.0) }
+{
+    let Some((name, front)) = names.split_last() else {
         unreachable!()
     };
     (dir_at(slots, root, front), name)

@@ -1,5 +1,5 @@
 -- What a stack of layers shows at a path (overlayfs.rst).
-use Rattle.std.specs.Prelude.{ℕ, Bool, true, false, List, [], ◌∷◌, Option, Some, None, if◌then◌else◌}
+use Rattle.std.specs.Prelude.{ℕ, Bool, true, false, List, [], ◌∷◌, ◌++◌, Option, Some, None, if◌then◌else◌}
 use Rattle.snap_path.specs.Text.{Names}
 use Rattle.snap_layer.specs.declared.content.Content.{Content}
 use Rattle.snap_layer.specs.declared.node.Node.{Node}
@@ -50,6 +50,16 @@ seen (t ∷ ts) p = seen_over t (at t p) p (seen ts p)
 abbrev pub is_shown_dir : Option Object → Bool
 is_shown_dir (Some (dir mode)) = true
 is_shown_dir other = false
+
+-- the mode of a directory that is seen
+abbrev pub mode_of : Option Object → ℕ
+mode_of (Some (dir mode)) = mode
+mode_of other = 0
+
+-- the modes of what is seen at the front and the longer proper prefixes of front ++ rest
+abbrev pub modes_from : List Tree → Names → Names → List ℕ
+modes_from s front [] = []
+modes_from s front (n ∷ rest) = mode_of (seen s front) ∷ modes_from s (front ++ n ∷ []) rest
 
 -- each of them is a layer
 abbrev pub AreLayers : List Tree → Type 0
