@@ -1,21 +1,23 @@
 -- What is kept beside the state, after a change of one slot and one namespace.
 use Rattle.std.proofs.Common.{◌≡◌, ◌≢◌, ℕ, zero, suc, ◌<◌, ◌≤◌, List, [], ◌∷◌, length, set, true, false, Some, None, eqb, sym, refl, ap, ◌∙◌, subst, ⊎_elim, arith}
 use Rattle.std.specs.Prelude.{Option, slice_get}
-use Rattle.std.proofs.lemmas.Bool.Decides.{eqb_tells}
+use Rattle.std.proofs.lemmas.Bool.Decides.{eqb_tells, nat_tests}
 use Rattle.std.proofs.lemmas.List.{length-set}
 use Rattle.snap_usage.specs.declared.usage.Usage.{Usage}
 use Rattle.snap_usage.specs.Counted.{Covers, covers}
 use Rattle.snap_ledger.specs.States.{ChargeState, free_charge}
 use Rattle.snap_call.specs.declared.config.Namespace.{Namespace}
 use Rattle.snap_call.specs.declared.state.State.{State}
+use Rattle.snap_call.specs.Forms.{is_limit}
 use Rattle.snap_call.specs.Good.{Good}
 use Rattle.snap_call.specs.Records.{charge_of, charge_at, open_count, active_at, is_slot, recharged, without_slot, with_record, committed_as, max_slots}
 use Rattle.snap_call.specs.State.{limit_at}
 use Rattle.snap_call.proofs.Sums.{charge_of-recharged_own, charge_of-recharged_other, charge_of-without_own, charge_of-without_other, charge_of-committed_own, charge_of-committed_other, charge_of-with_record_own, charge_of-with_record_other}
-use Rattle.std.specs.Prelude.{nat_le, ◌&&◌}
-use Rattle.std.proofs.lemmas.Bool.{le-leb}
+use Rattle.std.specs.Prelude.{nat_le, ◌&&◌, ◌^◌}
+use Rattle.std.proofs.lemmas.Bool.{and_parts, le-leb}
 use Rattle.snap_call.specs.Step.{fits_limit}
 use Rattle.snap_call.proofs.Sums.{charge_of-covers, charge_with}
+use Rattle.snap_call.proofs.Keeping.{covers-Covers}
 use Rattle.snap_call.proofs.Lists.{active_at-all}
 use Rattle.snap_call.proofs.Slots.{is_slot-other, charge_at-Some, charge_at-recharged_own, charge_at-recharged_other, charge_at-without_slot_own, charge_at-without_slot_other, charge_at-committed_own, charge_at-committed_other, charge_at-with_record_own, charge_at-with_record_other}
 use Rattle.snap_layer.specs.Tree.{Tree}
@@ -193,3 +195,15 @@ pub fits_less : (s : State) (place : ℕ) (held to : Usage) → Covers (limit_at
 fits_less s place held to limit total less =
     covers-true (limit_at place s.namespaces) (plus (minus (charge_of place s.records) held) to)
     (omega (arith, limit.blocks, total.blocks, less.blocks)) (omega (arith, limit.inodes, total.inodes, less.inodes))
+
+few : (n m : ℕ) → nat_le n 1099511627776 ≡ true → m ≤ n → m < 2 ^ 64
+few n m low le = let most : n ≤ 1099511627776 = grind (arith, nat_tests) in omega (arith, most, le)
+
+-- what a limit covers has room in its numbers
+pub few-within : (limit u : Usage) → is_limit limit ≡ true → Covers limit u → (u.blocks < 2 ^ 64) × (u.inodes < 2 ^ 64)
+few-within limit u formed within =
+    let low = and_parts (nat_le limit.blocks 1099511627776) (nat_le limit.inodes 1099511627776) formed in
+    (few limit.blocks u.blocks low.0 within.blocks, few limit.inodes u.inodes low.1 within.inodes)
+
+pub few-covered : (limit u : Usage) → is_limit limit ≡ true → covers limit u ≡ true → (u.blocks < 2 ^ 64) × (u.inodes < 2 ^ 64)
+few-covered limit u formed fits = few-within limit u formed (covers-Covers limit u fits)

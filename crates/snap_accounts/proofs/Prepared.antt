@@ -57,8 +57,8 @@ accounts_prepared s us vs cs ds n place slot key parent labels rs accounts insid
 
 -- ---- the tests of a parent
 
-after_tests : {X : Type 0} (p h b d : Bool) (w x y z next : X) → p ≡ true → h ≡ false → b ≡ true → (if not p then w else if h then x else if not b then y else if d then z else next) ≡ (if d then z else next)
-after_tests p h b d w x y z next e f g = λ i. if not (e i) then w else if f i then x else if not (g i) then y else if d then z else next
+after_tests : {X : Type 0} (p h b d : Bool) (w x y z next : X) → p ≡ true → h ≡ false → b ≡ true → (if p then if h then x else if b then if d then z else next else y else w) ≡ (if d then z else next)
+after_tests p h b d w x y z next e f g = λ i. if e i then if f i then x else if g i then if d then z else next else y else w
 
 module _ (rs : List Record) (key parent : Bytes) (place : ℕ) (present : is_present place parent rs ≡ true) (new : has_key place key rs ≡ false) (base : is_base place parent rs ≡ true) where
   -- the last one is whether it is too deep

@@ -1,7 +1,7 @@
 // The state, and what each namespace is charged.
 ghost use Rattle.std.specs.Prelude.{◌≡◌, ◌<◌, ◌+◌, ◌^◌, IfOk, length, replicate, slice_set, true};
 ghost use Rattle.snap_usage.specs.Counted.{Covers, no_usage};
-ghost use Rattle.snap_call.specs.Forms.{is_config};
+ghost use Rattle.snap_call.specs.Forms.{is_config, is_limit};
 ghost use Rattle.snap_call.specs.Good.{Good};
 ghost use Rattle.snap_call.specs.Records.{charge_of, open_count, max_sessions};
 ghost use Rattle.snap_call.specs.State.{limit_at, opening};
@@ -74,12 +74,13 @@ impl<N: StoreName> Accounts<N> {
         self.opened
     }
 
-    /// What the namespace at a place is charged. Its limit covers that. Takes no memory. The cost is
-    /// constant.
+    /// What the namespace at a place is charged. Its limit, of at most 2^40 blocks and inodes, covers that.
+    /// Takes no memory. The cost is constant.
     pub fn total(&self, place: usize) -> Usage
         requires { place < length self.now.namespaces }
         ensures total { result ≡ charge_of place self.now.records }
         ensures within { Covers (limit_at place self.now.namespaces) result }
+        ensures limit { is_limit (limit_at place self.now.namespaces) ≡ true }
     {
         self.totals.at(place)
     }

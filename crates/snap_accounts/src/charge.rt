@@ -34,15 +34,6 @@ pub(crate) fn has_room(limit: Usage, rest: Usage, to: Usage) -> bool
     to.blocks <= limit.blocks - rest.blocks && to.inodes <= limit.inodes - rest.inodes
 }
 
-// The sum, which the limit covers.
-pub(crate) fn sum(a: Usage, b: Usage, limit: Usage) -> Usage
-    requires { covers_of limit (plus a b) ≡ true }
-    ensures { result ≡ plus a b }
-{
-    let _ = limit;
-    a.plus(b)
-}
-
 impl<N: StoreName> Accounts<N> {
     /// What both halves of an open slot's charge hold, by its share: the slot is open under the share's
     /// id, and charged the share's usage. Takes no memory. The cost is constant.
@@ -63,6 +54,7 @@ impl<N: StoreName> Accounts<N> {
         ensures place { result ≡ place_if (active_at slot self.now.records) }
         ensures low { result < length self.now.namespaces }
         ensures held { Covers (charge_of result self.now.records) (charge_at slot self.now.records).usage }
+        ensures within { Covers (limit_at result self.now.namespaces) (charge_of result self.now.records) }
     {
         self.state.records.place_in(slot).unwrap_or(0)
     }
@@ -127,7 +119,7 @@ impl<N: StoreName> Accounts<N> {
     {
         let slot = share.slot();
         let rest = difference(self.total(place), share.held());
-        let after = sum(rest, to, self.state.limit_at(place));
+        let after = rest.plus(to);
         self.slots.set(share, to);
         self.totals.set(place, after);
         self.state.records.recharge(slot, to);
@@ -165,17 +157,6 @@ impl<N: StoreName> Accounts<N> {
         }
     }
 
-    // An amount that what is held covers fits: a fact for the call that follows.
-    #[tactic(auto, using(crate::proofs::Accounting::fits_less))]
-    fn show_that_less_fits(&self, place: usize, held: Usage, count: Usage)
-        requires place { place < length self.now.namespaces }
-        requires held { Covers (charge_of place self.now.records) held }
-        requires count { Covers held count }
-        ensures { fits_limit self.now place held count ≡ true }
-    {
-        let _ = self.total(place);
-    }
-
     /// Lowers the charge of the share's slot to a count that it covers, and counts an entry. The share has
     /// met its charge before ([`Accounts::meet`]). Takes no memory. The cost grows with the logarithm of the
     /// number of records.
@@ -190,9 +171,7 @@ impl<N: StoreName> Accounts<N> {
         ensures share { share.new ≡ record share.old { usage = count } }
         ensures open { open_count self.new.records ≡ open_count self.old.records }
     {
-        let held = share.held();
         let place = self.place(share.slot());
-        self.show_that_less_fits(place, held, count);
         self.recharge(share, place, count);
     }
 

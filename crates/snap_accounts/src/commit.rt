@@ -10,7 +10,6 @@ ghost use Rattle.snap_accounts.specs.Commits.{CanCommit};
 ghost use Rattle.snap_accounts.specs.Entries.{IsRecorded};
 
 use crate::accounts::Accounts;
-use crate::charge::sum;
 use snap_call::{Refusal, is_key};
 use snap_layer::Shared;
 use snap_ledger::{Share, StoreName};
@@ -78,7 +77,7 @@ impl<N: StoreName> Accounts<N> {
         ensures { result ≡ plus (minus (charge_of place self.now.records) held) count }
     {
         let rest = difference(self.total(place), held);
-        sum(rest, count, self.state().limit_at(place))
+        rest.plus(count)
     }
 
     /// Makes the snapshot of the share's slot a committed one of this name and layer, with the labels in

@@ -3,7 +3,8 @@ ghost use Rattle.std.specs.Prelude.{◌≡◌, ◌<◌, ◌^◌, ◌+◌, ◌++�
 ghost use Rattle.snap_lease.specs.Lease.{empty_lease};
 ghost use Rattle.snap_lease.specs.Leases.{has_lease, lease_names, with_name_added, with_name_dropped, without_lease};
 ghost use Rattle.snap_call.specs.Records.{open_count};
-ghost use Rattle.snap_call.specs.Step.{lease_add, lease_create, lease_drop, lease_release, leasing, limited_at, refused, set_limit};
+ghost use Rattle.snap_call.specs.Step.{leasing, limited_at, refused};
+ghost use Rattle.snap_call.specs.Steps.{lease_add, lease_create, lease_drop, lease_release, set_limit};
 ghost use Rattle.snap_call.specs.declared.reply.Reply.TheVariants.{Done};
 ghost use Rattle.snap_accounts.specs.Changes.{CanChange, IsLimitFor, IsLeaseName, IsSpace, changed_state};
 ghost use Rattle.snap_accounts.specs.Entries.{IsInEntry, IsRecorded};

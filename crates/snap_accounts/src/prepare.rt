@@ -11,7 +11,7 @@ ghost use Rattle.snap_accounts.specs.Vacant.{IsVacant};
 ghost use Rattle.snap_record.specs.declared.record.Content.TheVariants.{Active};
 
 use crate::accounts::Accounts;
-use crate::charge::{has_room, sum};
+use crate::charge::has_room;
 use snap_call::limits::MAX_ID;
 use snap_call::{Refusal, is_key, is_parent};
 use snap_ledger::{Share, StoreName};
@@ -174,7 +174,7 @@ impl<N: StoreName> Accounts<N> {
     {
         let Vacancy { place, slot } = vacancy;
         let id = added.id;
-        let after = sum(self.total(place), one(), self.state.limit_at(place));
+        let after = self.total(place).plus(one());
         if let Err((no_memory, _)) = self.state.records.insert(added) {
             return Err(no_memory.into());
         }

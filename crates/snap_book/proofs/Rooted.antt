@@ -11,7 +11,7 @@ use Rattle.snap_layer.specs.Tree.{Tree, Entries, path_cmp, at, is_dir, IsDirAt}
 use Rattle.snap_layer.specs.Counts.{dir_count}
 use Rattle.snap_layer.specs.Layers.{IsLayer, IsWhole}
 use Rattle.snap_layer.specs.declared.node.Node.TheVariants.{Dir, File, Symlink, Whiteout}
-use Rattle.snap_book.specs.Active.{mode_of}
+use Rattle.snap_book.specs.Active.{mode_of_root}
 use Rattle.snap_usage.specs.Counted.{count_of}
 use Rattle.snap_ledger.specs.States.{CoversOne}
 
@@ -44,7 +44,7 @@ pub count_covers_one : (t : Tree) → IsLayer t → CoversOne (count_of t)
 count_covers_one t layer = let root = root_count t (at t []) refl layer.root in record { blocks = omega (arith, root); inodes = omega (arith, root) }
 
 -- its permission bits are at most octal 7777, as those of each directory
-pub mode-low : (t : Tree) (p : Names) (n : Node) → IsLayer t → at t p ≡ Some n → mode_of (Some n) ≤ most_mode
+pub mode-low : (t : Tree) (p : Names) (n : Node) → IsLayer t → at t p ≡ Some n → mode_of_root (Some n) ≤ most_mode
 mode-low t p (Dir mode opaque) layer e = let whole : IsWhole t (Dir mode opaque) = layer.nodes p (Dir mode opaque) e in whole
 mode-low t p (File number) layer e = omega arith
 mode-low t p (Symlink number) layer e = omega arith

@@ -22,7 +22,8 @@ use Rattle.snap_call.specs.declared.state.State.{State}
 use Rattle.snap_call.specs.Journal.{call_entry}
 use Rattle.snap_call.specs.Records.{has_key, is_named, record_cmp, with_record}
 use Rattle.snap_call.specs.State.{place_of, ancestors, ids_of, shown_layers}
-use Rattle.snap_call.specs.Step.{added, place_for, refused, step, unless_refused, prepare_view, view_at, viewed, new_record}
+use Rattle.snap_call.specs.Step.{added, place_for, refused, step, unless_refused, prepare_view, viewed, new_record}
+use Rattle.snap_call.proofs.Parts.{view_at}
 use Rattle.snap_call.proofs.Lists.{all-map, all-with_record, none-passes}
 use Rattle.snap_call.proofs.InOrder.{record_cmp_total, tied-is_named}
 use Rattle.snap_call.proofs.Places.{place_for-Ok}

@@ -16,14 +16,14 @@ pub record ActiveValue : Type 0 where
   pub share : ShareState
 
 -- the permission bits of a directory; those of nothing, and of all else, are 755 in octal
-abbrev pub mode_of : Option Node → ℕ
-mode_of (Some (Dir mode opaque)) = mode
-mode_of other = 493
+abbrev pub mode_of_root : Option Node → ℕ
+mode_of_root (Some (Dir mode opaque)) = mode
+mode_of_root other = 493
 
 -- the permission bits of the root of a new layer over these: those of the nearest one's root, and 755 in octal where there is none
 abbrev pub root_mode : List Tree → ℕ
 root_mode [] = 493
-root_mode (layer ∷ layers) = mode_of (at layer [])
+root_mode (layer ∷ layers) = mode_of_root (at layer [])
 
 -- the layer of a new snapshot over these: a root alone, which may have so many inodes
 abbrev pub fresh : ℕ → List Tree → Tree

@@ -11,7 +11,7 @@ use Rattle.snap_record.specs.Labels.{Bytes, Label}
 use Rattle.snap_record.specs.declared.record.Record.{Record}
 use Rattle.snap_call.specs.declared.config.Namespace.{Namespace}
 use Rattle.snap_call.specs.Records.{record_cmp, is_named, record_at, is_slot, active_at, is_committed, committed_at, charge_of, charge_if, charge_at, open_count, with_labels, relabelled, AllPairwise}
-use Rattle.snap_call.specs.State.{place_of, chain_from, is_base, ancestors, ids_of, layer_of, layers_of}
+use Rattle.snap_call.specs.State.{place_of, chain_from, is_base, ancestors, ids_of, layer_of, layers_of, most_ancestors}
 use Rattle.snap_call.specs.Good.{IsGuarding}
 use Rattle.snap_call.proofs.Lists.{all-map, some_same, none_some, if_committed, active_one, open_count-cons}
 use Rattle.snap_call.proofs.Chains.{HasParent, NamesStand, chain, chain_over}
@@ -190,7 +190,7 @@ module _ (rs ts : List Record) (alike : AreAlike rs ts) where
   alike-chain n place p some = alike-is_chain n place p ∙ some
 
   pub alike-some_chain : (r : Record) → IsSome (chain rs r) → IsSome (chain ts r)
-  alike-some_chain r some = alike-chain 64 r.namespace r.parent some
+  alike-some_chain r some = alike-chain most_ancestors r.namespace r.parent some
 
   pub alike-layers_of : layers_of ts ≡ layers_of rs
   alike-layers_of = same_of layers_of layers_of-bare
@@ -212,14 +212,14 @@ module _ (rs ts : List Record) (alike : AreAlike rs ts) where
 module _ (rs ts : List Record) (alike : AreAlike rs ts) (place : ℕ) (p : Bytes) where
   -- they are alike
   pub alike-ancestors : AreAlike (ancestors place p rs) (ancestors place p ts)
-  alike-ancestors = sym (or_none (chain_from 64 rs place p)) ∙ ap (λ o. unwrap_or o []) both ∙ or_none (chain_from 64 ts place p)
+  alike-ancestors = sym (or_none (chain_from most_ancestors rs place p)) ∙ ap (λ o. unwrap_or o []) both ∙ or_none (chain_from most_ancestors ts place p)
     where
       or_none : (o : Option (List Record)) → unwrap_or (option_map (map bare) o) [] ≡ map bare (unwrap_or o [])
       or_none None = refl
       or_none (Some l) = refl
 
-      both : option_map (map bare) (chain_from 64 rs place p) ≡ option_map (map bare) (chain_from 64 ts place p)
-      both = sym (chain_from-bare 64 rs place p) ∙ ap (λ us. chain_from 64 us place p) alike ∙ chain_from-bare 64 ts place p
+      both : option_map (map bare) (chain_from most_ancestors rs place p) ≡ option_map (map bare) (chain_from most_ancestors ts place p)
+      both = sym (chain_from-bare most_ancestors rs place p) ∙ ap (λ us. chain_from most_ancestors us place p) alike ∙ chain_from-bare most_ancestors ts place p
 
   -- and have the same layers and the same ids
   pub alike-layers : layers_of (ancestors place p ts) ≡ layers_of (ancestors place p rs)

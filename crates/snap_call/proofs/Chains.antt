@@ -11,7 +11,7 @@ use Rattle.snap_record.specs.declared.record.Content.{Content}
 use Rattle.snap_record.specs.declared.record.Content.TheVariants.{View, Active, Committed}
 use Rattle.snap_record.specs.declared.record.Record.{Record}
 use Rattle.snap_call.specs.Records.{is_named, record_at, has_key, has_slot, is_slot, is_child, has_children, is_committed, committed_at, with_record, without_slot, without_key, recharged}
-use Rattle.snap_call.specs.State.{chain_from, ancestors, is_base, is_too_deep}
+use Rattle.snap_call.specs.State.{chain_from, ancestors, is_base, is_too_deep, most_ancestors}
 use Rattle.snap_call.proofs.Lists.{all-map, some_same, none_some, committed-parts, committed-from, committed_at-is_named, find-any, find-passes, find-all, none-passes, all-both, find-with_record, find-without, find-recharged}
 
 -- the record's parent is none, or a committed record
@@ -24,7 +24,7 @@ NamesStand rs o names = IsSomeAnd o (λ place. AllByRecursion (λ name. IsSome (
 
 -- the committed ancestors of a snapshot
 abbrev pub chain : List Record → Record → Option (List Record)
-chain rs r = chain_from 64 rs r.namespace r.parent
+chain rs r = chain_from most_ancestors rs r.namespace r.parent
 
 -- the record before those of the next chain
 abbrev pub chain_over : Option Record → (Record → Option (List Record)) → Option (List Record)
@@ -182,21 +182,21 @@ module _ (P : ℕ → Bytes → Type 0) (rs ts : List Record) (keeps : KeepsFor 
       by (Some c) e is = ap is_some (keeps-chain_from n place p c m e)
 
   pub keeps-some_chain : (r : Record) → OnParent P r.namespace r.parent → IsSome (chain rs r) → IsSome (chain ts r)
-  keeps-some_chain r m some = some_chain 64 r.namespace r.parent m some
+  keeps-some_chain r m some = some_chain most_ancestors r.namespace r.parent m some
 
   -- the ancestors of a snapshot that has a chain
-  pub keeps-ancestors : (place : ℕ) (p : Bytes) → OnParent P place p → IsSome (chain_from 64 rs place p) → ancestors place p ts ≡ ancestors place p rs
-  keeps-ancestors place p m some = by (chain_from 64 rs place p) refl some
+  pub keeps-ancestors : (place : ℕ) (p : Bytes) → OnParent P place p → IsSome (chain_from most_ancestors rs place p) → ancestors place p ts ≡ ancestors place p rs
+  keeps-ancestors place p m some = by (chain_from most_ancestors rs place p) refl some
     where
-      by : (o : Option (List Record)) → chain_from 64 rs place p ≡ o → IsSome o → ancestors place p ts ≡ ancestors place p rs
+      by : (o : Option (List Record)) → chain_from most_ancestors rs place p ≡ o → IsSome o → ancestors place p ts ≡ ancestors place p rs
       by None e is = absurd (true≢false (sym is))
-      by (Some c) e is = ap (λ o. unwrap_or o []) (keeps-chain_from 64 place p c m e ∙ sym e)
+      by (Some c) e is = ap (λ o. unwrap_or o []) (keeps-chain_from most_ancestors place p c m e ∙ sym e)
 
 -- ---- a parent that was tested
 
 -- there is a chain from it upwards
-pub chain-found : (rs : List Record) (place : ℕ) (p : Bytes) → is_too_deep place p rs ≡ false → IsSome (chain_from 64 rs place p)
-chain-found rs place p e = not-false (is_some (chain_from 64 rs place p)) e
+pub chain-found : (rs : List Record) (place : ℕ) (p : Bytes) → is_too_deep place p rs ≡ false → IsSome (chain_from most_ancestors rs place p)
+chain-found rs place p e = not-false (is_some (chain_from most_ancestors rs place p)) e
 
 -- ---- a chain, record by record
 
@@ -251,18 +251,18 @@ chain-links (suc n) rs place (b ∷ bs) c e =
     ((own, on), all-map (IsLink rs place h.1) (IsLink rs place (h.0 ∷ h.1)) (λ t g. (g.0, later h.0 h.1 place t.parent g.1)) h.1 (chain-links n rs place h.0.parent h.1 h.3))
 
 -- the ancestors of a snapshot that has a chain
-module _ (rs : List Record) (place : ℕ) (p : Bytes) (some : IsSome (chain_from 64 rs place p)) where
-  of_chain : (P : List Record → Type 0) → ((c : List Record) → chain_from 64 rs place p ≡ Some c → P c) → P (ancestors place p rs)
-  of_chain P f = by (chain_from 64 rs place p) refl some
+module _ (rs : List Record) (place : ℕ) (p : Bytes) (some : IsSome (chain_from most_ancestors rs place p)) where
+  of_chain : (P : List Record → Type 0) → ((c : List Record) → chain_from most_ancestors rs place p ≡ Some c → P c) → P (ancestors place p rs)
+  of_chain P f = by (chain_from most_ancestors rs place p) refl some
     where
-      by : (o : Option (List Record)) → chain_from 64 rs place p ≡ o → IsSome o → P (ancestors place p rs)
+      by : (o : Option (List Record)) → chain_from most_ancestors rs place p ≡ o → IsSome o → P (ancestors place p rs)
       by None e is = absurd (true≢false (sym is))
       by (Some c) e is = subst P (sym (ap (λ o. unwrap_or o []) e)) (f c e)
 
   -- the first is its parent
   pub ancestors-head : OnParent (KeyOf (ancestors place p rs)) place p
-  ancestors-head = of_chain (λ c. OnParent (KeyOf c) place p) (λ c e. chain-head 64 rs place p c e)
+  ancestors-head = of_chain (λ c. OnParent (KeyOf c) place p) (λ c e. chain-head most_ancestors rs place p c e)
 
   -- each is a committed record, whose parent is none or one of them
   pub ancestors-links : AllByRecursion (IsLink rs place (ancestors place p rs)) (ancestors place p rs)
-  ancestors-links = of_chain (λ c. AllByRecursion (IsLink rs place c) c) (λ c e. chain-links 64 rs place p c e)
+  ancestors-links = of_chain (λ c. AllByRecursion (IsLink rs place c) c) (λ c e. chain-links most_ancestors rs place p c e)

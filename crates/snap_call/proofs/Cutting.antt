@@ -29,7 +29,8 @@ use Rattle.snap_call.specs.Good.{HasShortNames}
 use Rattle.snap_call.specs.Kept.{has_namespace, has_snapshot, kept, kept_change, kept_new}
 use Rattle.snap_call.specs.Records.{active_at, has_key, is_named, record_at, info_page, with_labels}
 use Rattle.snap_call.specs.State.{place_of}
-use Rattle.snap_call.specs.Step.{are_formed, at_record, commit, commit_as, committed, counted, has_named, in_namespace, lease_add_record, lease_create_at, lease_drop_at, lease_release_at, mounts, place_for, place_on, prepare_at, refused, relabelled_at, remove_record, set_limit_at, step, sweep_at, unless_refused, update_record, view_at}
+use Rattle.snap_call.specs.Step.{are_formed, at_record, commit, commit_as, committed, counted, has_named, in_namespace, mounts, place_for, place_on, refused, relabelled_at, step, sweep_at, unless_refused, update_record}
+use Rattle.snap_call.proofs.Parts.{lease_add_record, lease_create_at, lease_drop_at, lease_release_at, prepare_at, remove_record, set_limit_at, view_at}
 use Rattle.snap_call.proofs.Leasing.{position-past}
 use Rattle.snap_call.proofs.Indexed.{any-found_some}
 use Rattle.snap_call.proofs.Lists.{find-passes, found-any}

@@ -4,7 +4,7 @@ use Rattle.std.specs.List.{AllByRecursion, list_all, list_any}
 use Rattle.std.specs.List.Sorted.{IsStrictlySortedBy}
 use Rattle.std.specs.Option.{option_map_or, is_some}
 use Rattle.std.specs.Prelude.{if◌then◌else◌, ◌&&◌, ◌==◌, not, nat_lt, nat_le, Result, Ok, Err}
-use Rattle.std.proofs.lemmas.Bool.{and_parts, not-false}
+use Rattle.std.proofs.lemmas.Bool.{and_parts}
 use Rattle.std.proofs.lemmas.Bool.Decides.{nat_tests}
 use Rattle.snap_path.specs.Limits.{most_number}
 use Rattle.snap_layer.specs.Tree.{Tree}
@@ -32,7 +32,9 @@ use Rattle.snap_call.specs.Forms.{is_limit, is_layer_limit, is_namespace, is_slo
 use Rattle.snap_call.specs.Records.{charge_of, has_key, has_children, is_active, is_committed, record_at, active_at, max_slots, max_journal, max_sessions}
 use Rattle.snap_call.specs.State.{opening, place_of, limit_at}
 use Rattle.snap_call.specs.Good.{Good}
-use Rattle.snap_call.specs.Step.{are_formed, refused, session, prepared, prepare_at, prepare, greater, fits_limit, charge_to, charge, trim, commit_as, commit, discard, ask, step, IsCovered, IsAllowed, place_for, slot_for, unless_refused, view_at, prepare_view, remove_record, remove, update_record, update, walk_infos, in_namespace, has_named, set_limit_at, set_limit, lease_create, lease_add_record, lease_add, lease_drop, lease_drop_at, lease_release, at_record}
+use Rattle.snap_call.specs.Step.{are_formed, refused, prepared, prepare, greater, fits_limit, charge, trim, commit_as, commit, discard, ask, step, IsCovered, IsAllowed, place_for, slot_for, unless_refused, prepare_view, update_record, in_namespace, has_named, at_record}
+use Rattle.snap_call.specs.Steps.{session, remove, update, walk_infos, set_limit, lease_create, lease_add, lease_drop, lease_release}
+use Rattle.snap_call.proofs.Parts.{prepare_at, charge_to, view_at, remove_record, set_limit_at, lease_add_record, lease_drop_at}
 use Rattle.snap_call.specs.Journal.{Replays}
 use Rattle.snap_call.proofs.Leasing.{good_limited, good_created, good_dropped, good_named, good_released}
 use Rattle.snap_call.proofs.Lists.{committed-from}
@@ -171,9 +173,11 @@ good_lease_create s namespace lease until good =
 
 good_lease_add_record : (s : State) (namespace lease name : Bytes) (place : ℕ) → Good s → place_of namespace s.namespaces ≡ Some place → (r : Record) → record_at place name s.records ≡ Some r → Good (lease_add_record s namespace lease name r).0
 good_lease_add_record s namespace lease name place good e r f =
-    either (not (is_committed r.content)) _ _ (λ other. good_counted s good)
-    (λ is. either (not (has_lease s.leases namespace lease)) _ _ (λ none. good_counted s good)
-    (λ there. good_named s namespace lease name place good e (ap is_some (committed-from (record_at place name s.records) r f (not-false (is_committed r.content) is)))))
+    either (is_committed r.content) _ _
+    (λ is. either (has_lease s.leases namespace lease) _ _
+    (λ there. good_named s namespace lease name place good e (ap is_some (committed-from (record_at place name s.records) r f is)))
+    (λ none. good_counted s good))
+    (λ other. good_counted s good)
 
 pub good_lease_add : (s : State) (namespace lease name : Bytes) → Good s → Good (lease_add s namespace lease name).0
 good_lease_add s namespace lease name good =
@@ -183,8 +187,9 @@ good_lease_add s namespace lease name good =
 
 good_lease_drop_at : (s : State) (namespace lease name : Bytes) → Good s → Good (lease_drop_at s namespace lease name).0
 good_lease_drop_at s namespace lease name good =
-    either (not (has_lease s.leases namespace lease)) _ _ (λ none. good_counted s good)
-    (λ there. either (not (lease_names s.leases namespace lease name)) _ _ (λ other. good_counted s good) (λ named. good_dropped s namespace lease name good))
+    either (has_lease s.leases namespace lease) _ _
+    (λ there. either (lease_names s.leases namespace lease name) _ _ (λ named. good_dropped s namespace lease name good) (λ other. good_counted s good))
+    (λ none. good_counted s good)
 
 pub good_lease_drop : (s : State) (namespace lease name : Bytes) → Good s → Good (lease_drop s namespace lease name).0
 good_lease_drop s namespace lease name good =

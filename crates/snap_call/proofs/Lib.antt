@@ -9,6 +9,7 @@ pub mod Sums
 pub mod Alike
 pub mod Lowest
 pub mod Slots
+pub mod Parts
 pub mod Places
 mod CodeLemmas
 mod Searches

@@ -20,7 +20,7 @@ use Rattle.snap_call.specs.Good.{Good}
 use Rattle.snap_call.specs.Marked.{base_place, parent_place, is_kept, marked}
 use Rattle.snap_call.specs.Reached.{is_in_use, is_ancestor, is_reached, is_swept, swept}
 use Rattle.snap_call.specs.Records.{record_cmp, is_named, is_committed, committed_at}
-use Rattle.snap_call.specs.State.{chain_from}
+use Rattle.snap_call.specs.State.{chain_from, most_ancestors}
 use Rattle.snap_call.proofs.Lists.{some_same, none_some, committed-parts, find-passes}
 use Rattle.snap_call.proofs.Chains.{chain_over}
 use Rattle.snap_call.proofs.Searches.{named_once}
@@ -169,7 +169,7 @@ module _ (place : ℕ) (rs : List Record) (sorted : IsStrictlySortedBy record_cm
       named_once place key rs sorted i k r (slice_get_within rs i t ei) (slice_get_within rs k r ek)
       (ap (is_named place key) (get_or_from_slice_get rs i t r ei) ∙ ti) (ap (is_named place key) (get_or_from_slice_get rs k r r ek) ∙ rk)
 
-  module _ (chains : AllByRecursion (λ r. IsSome (chain_from 64 rs r.namespace r.parent)) rs) (root : Record → Bool) where
+  module _ (chains : AllByRecursion (λ r. IsSome (chain_from most_ancestors rs r.namespace r.parent)) rs) (root : Record → Bool) where
     -- a record of the namespace that is in use for what it is
     abbrev is_own_root : Record → Bool
     is_own_root t = (t.namespace == place) && root t
@@ -182,16 +182,16 @@ module _ (place : ℕ) (rs : List Record) (sorted : IsStrictlySortedBy record_cm
     reaches key t = (t.namespace == place) && root t && (bytes_eq t.key key || is_ancestor rs key t)
 
     abbrev Chain : Record → Type 0
-    Chain t = (chain : List Record) × (chain_from 64 rs t.namespace t.parent ≡ Some chain)
+    Chain t = (chain : List Record) × (chain_from most_ancestors rs t.namespace t.parent ≡ Some chain)
 
     some_of : (o : Option (List Record)) → IsSome o → (chain : List Record) × (o ≡ Some chain)
     some_of None some = absurd (true≢false (sym some))
     some_of (Some chain) some = (chain, refl)
 
     chain_of : (k : ℕ) (t : Record) → slice_get rs k ≡ Some t → Chain t
-    chain_of k t at = some_of (chain_from 64 rs t.namespace t.parent) (all-at (λ r. IsSome (chain_from 64 rs r.namespace r.parent)) rs k t at chains)
+    chain_of k t at = some_of (chain_from most_ancestors rs t.namespace t.parent) (all-at (λ r. IsSome (chain_from most_ancestors rs r.namespace r.parent)) rs k t at chains)
 
-    above_is : (key : Bytes) (t : Record) (chain : List Record) → chain_from 64 rs t.namespace t.parent ≡ Some chain → is_ancestor rs key t ≡ list_any (λ u. bytes_eq u.key key) chain
+    above_is : (key : Bytes) (t : Record) (chain : List Record) → chain_from most_ancestors rs t.namespace t.parent ≡ Some chain → is_ancestor rs key t ≡ list_any (λ u. bytes_eq u.key key) chain
     above_is key t chain e = ap (λ o. list_any (λ u. bytes_eq u.key key) (unwrap_or o [])) e
 
     module _ (k : ℕ) (r : Record) (here : slice_get rs k ≡ Some r) (own : (r.namespace == place) ≡ true) where
@@ -204,10 +204,10 @@ module _ (place : ℕ) (rs : List Record) (sorted : IsStrictlySortedBy record_cm
           or_left _ _ ((bytes_eq-Decides t.key r.key).1 (ap (λ (u : Record). u.key) same))
       reached_from j (suc n) t at in_place walk =
           let chain = chain_of j t at in
-          let by_place : chain_from 64 rs place t.parent ≡ Some chain.0 = ap (λ (m : ℕ). chain_from 64 rs m t.parent) (sym (eqb-true t.namespace place in_place)) ∙ chain.1 in
+          let by_place : chain_from most_ancestors rs place t.parent ≡ Some chain.0 = ap (λ (m : ℕ). chain_from most_ancestors rs m t.parent) (sym (eqb-true t.namespace place in_place)) ∙ chain.1 in
           or_right (bytes_eq t.key r.key) _
           (above_is r.key t chain.0 chain.1
-          ∙ walk_in_chain 64 n t.parent chain.0 k r by_place (sym (first_step places_of n j ∙ ap (onward places_of n) (base_of j t at in_place)) ∙ walk) here)
+          ∙ walk_in_chain most_ancestors n t.parent chain.0 k r by_place (sym (first_step places_of n j ∙ ap (onward places_of n) (base_of j t at in_place)) ∙ walk) here)
 
       reached-is_reached : IsReached places_of roots_of k → list_any (reaches r.key) rs ≡ true
       reached-is_reached w =
@@ -227,8 +227,8 @@ module _ (place : ℕ) (rs : List Record) (sorted : IsStrictlySortedBy record_cm
             | inl same ↦ (j, 0, is_root_at, ap Some (one_place j k t r r.key found.2 here (and_from _ _ in_place same) named_here))
             | inr above ↦ (
                 let chain = chain_of j t found.2 in
-                let by_place : chain_from 64 rs place t.parent ≡ Some chain.0 = ap (λ (m : ℕ). chain_from 64 rs m t.parent) (sym (eqb-true t.namespace place in_place)) ∙ chain.1 in
-                let h = chain_is_walked 64 t.parent chain.0 r.key by_place (sym (above_is r.key t chain.0 chain.1) ∙ above) in
+                let by_place : chain_from most_ancestors rs place t.parent ≡ Some chain.0 = ap (λ (m : ℕ). chain_from most_ancestors rs m t.parent) (sym (eqb-true t.namespace place in_place)) ∙ chain.1 in
+                let h = chain_is_walked most_ancestors t.parent chain.0 r.key by_place (sym (above_is r.key t chain.0 chain.1) ∙ above) in
                 let same : h.1 ≡ k = one_place h.1 k h.2 r r.key h.4 here h.5 named_here in
                 (j, suc h.0, is_root_at, first_step places_of h.0 j ∙ ap (onward places_of h.0) (base_of j t found.2 in_place) ∙ h.3 ∙ ap Some same)
                 )

@@ -1,8 +1,7 @@
 -- What is true where a place or a slot for a new snapshot was found.
 use Rattle.std.proofs.Common.{◌≡◌, ℕ, Bool, true, false, List, Option, None, Some, refl, ap, ◌∙◌, subst}
-use Rattle.std.specs.Prelude.{if◌then◌else◌, ◌&&◌, not, nat_le, Result, Ok, Err}
+use Rattle.std.specs.Prelude.{if◌then◌else◌, ◌&&◌, nat_le, Result, Ok, Err}
 use Rattle.std.specs.Option.{option_map_or}
-use Rattle.std.proofs.lemmas.Bool.{not-false}
 use Rattle.snap_path.specs.Limits.{most_number}
 use Rattle.snap_usage.specs.Counted.{covers}
 use Rattle.snap_ledger.specs.States.{plus}
@@ -13,7 +12,8 @@ use Rattle.snap_call.specs.declared.state.State.{State}
 use Rattle.snap_call.specs.Forms.{is_key, is_parent}
 use Rattle.snap_call.specs.Records.{charge_of, has_key, lowest_free}
 use Rattle.snap_call.specs.State.{place_of, limit_at, over_limit, is_present, is_base, is_too_deep}
-use Rattle.snap_call.specs.Step.{one, place_on, place_for, slot_or_refusal, slot_for}
+use Rattle.snap_call.specs.Step.{one, place_on, place_for, slot_for}
+use Rattle.snap_call.proofs.Parts.{slot_or_refusal}
 
 -- a snapshot of the key on the parent can stand at the place of the namespace
 pub record IsPlace (s : State) (namespace key parent : Bytes) (place : ℕ) : Type 0 where
@@ -27,16 +27,20 @@ past_test : (b : Bool) (why : Refusal) (next : Result ℕ Refusal) (place : ℕ)
 past_test true why next place e = absurd (cc)
 past_test false why next place e = (refl, e)
 
+past_needed : (b : Bool) (why : Refusal) (next : Result ℕ Refusal) (place : ℕ) → (if b then next else Err why) ≡ Ok place → (b ≡ true) × (next ≡ Ok place)
+past_needed true why next place e = (refl, e)
+past_needed false why next place e = absurd (cc)
+
 same_place : (p place : ℕ) (found : Result ℕ Refusal) → found ≡ Ok p → found ≡ Ok place → p ≡ place
 same_place p place found e f = cc
 
 place_on-Ok : (s : State) (namespace key parent : Bytes) (p place : ℕ) → place_of namespace s.namespaces ≡ Some p → place_on p key parent s.records ≡ Ok place → IsPlace s namespace key parent place
 place_on-Ok s namespace key parent p place named e =
-    let present = past_test (not (is_present p parent s.records)) NotFound _ place e in
+    let present = past_needed (is_present p parent s.records) NotFound _ place e in
     let free = past_test (has_key p key s.records) AlreadyExists _ place present.1 in
-    let base = past_test (not (is_base p parent s.records)) NotCommitted _ place free.1 in
+    let base = past_needed (is_base p parent s.records) NotCommitted _ place free.1 in
     let deep = past_test (is_too_deep p parent s.records) TooDeep _ place base.1 in
-    subst (IsPlace s namespace key parent) (same_place p place (Ok p) refl deep.1) (record { named = named; free = free.0; base = not-false (is_base p parent s.records) base.0; deep = deep.0 })
+    subst (IsPlace s namespace key parent) (same_place p place (Ok p) refl deep.1) (record { named = named; free = free.0; base = base.0; deep = deep.0 })
 
 place_in-Ok : (s : State) (namespace key parent : Bytes) (place : ℕ) (o : Option ℕ) → place_of namespace s.namespaces ≡ o → option_map_or (λ at. place_on at key parent s.records) o (Err NoNamespace) ≡ Ok place → IsPlace s namespace key parent place
 place_in-Ok s namespace key parent place None named e = absurd (cc)

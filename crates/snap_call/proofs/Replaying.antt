@@ -9,7 +9,8 @@ use Rattle.snap_call.specs.declared.entry.Entry.{Entry}
 use Rattle.snap_call.specs.declared.reply.Reply.{Reply}
 use Rattle.snap_call.specs.declared.state.State.{State}
 use Rattle.snap_call.specs.Records.{max_sessions}
-use Rattle.snap_call.specs.Step.{session, step, IsAllowed}
+use Rattle.snap_call.specs.Step.{step, IsAllowed}
+use Rattle.snap_call.specs.Steps.{session}
 use Rattle.snap_call.specs.Journal.{Replays, session_entries}
 use Rattle.snap_call.proofs.Stepping.{opened, stepped}
 

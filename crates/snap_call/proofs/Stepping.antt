@@ -1,7 +1,7 @@
 -- What holds of a state and one with an entry more and as many slots holds of a state and what a call leaves, but for a session, which may leave it as it was.
 use Rattle.std.proofs.Common.{◌≡◌, ℕ, ◌+◌, List, Bool, true, false, Some, None, refl}
 use Rattle.std.specs.Option.{option_map_or}
-use Rattle.std.specs.Prelude.{◌&&◌, not, nat_le, if◌then◌else◌, Option, Result, Ok, Err}
+use Rattle.std.specs.Prelude.{◌&&◌, nat_le, if◌then◌else◌, Option, Result, Ok, Err}
 use Rattle.snap_path.specs.Limits.{most_number}
 use Rattle.snap_layer.specs.Tree.{Tree}
 use Rattle.snap_usage.specs.declared.usage.Usage.{Usage}
@@ -24,7 +24,9 @@ use Rattle.snap_call.specs.declared.state.State.{State}
 use Rattle.snap_call.specs.Forms.{is_key, is_limit, is_page, is_start}
 use Rattle.snap_call.specs.Records.{record_at, has_key, has_children, is_active, is_committed, active_at, charge_of}
 use Rattle.snap_call.specs.State.{place_of}
-use Rattle.snap_call.specs.Step.{are_formed, refused, session, prepared, prepare_at, prepare, granted, charge_to, charge, trim, commit_as, commit, discard, ask, step, place_for, slot_for, unless_refused, mounts, view_at, prepare_view, remove_record, remove, update_record, update, walk_infos, in_namespace, has_named, set_limit_at, set_limit, lease_create, lease_add_record, lease_add, lease_drop, lease_drop_at, lease_release, sweep_at, at_record}
+use Rattle.snap_call.specs.Step.{are_formed, refused, prepared, prepare, granted, charge, trim, commit_as, commit, discard, ask, step, place_for, slot_for, unless_refused, mounts, prepare_view, update_record, in_namespace, has_named, sweep_at, at_record}
+use Rattle.snap_call.specs.Steps.{session, remove, update, walk_infos, set_limit, lease_create, lease_add, lease_drop, lease_release}
+use Rattle.snap_call.proofs.Parts.{prepare_at, charge_to, view_at, remove_record, set_limit_at, lease_add_record, lease_drop_at}
 
 -- a session is counted where one is left
 abbrev pub opened : State → Bool → State × Reply
@@ -125,13 +127,13 @@ module _ (R : State → State → Type 0) (made : (s t : State) → t.slots ≡ 
   creating s namespace lease until = either s (is_key lease) _ _ (in_place s namespace _ (λ place. either s (has_lease s.leases namespace lease) _ _ (made _ _ refl refl) (made _ _ refl refl))) (made _ _ refl refl)
 
   adding_record : (s : State) (namespace lease name : Bytes) (r : Record) → R s (lease_add_record s namespace lease name r).0
-  adding_record s namespace lease name r = either s (not (is_committed r.content)) _ _ (made _ _ refl refl) (either s (not (has_lease s.leases namespace lease)) _ _ (made _ _ refl refl) (made _ _ refl refl))
+  adding_record s namespace lease name r = either s (is_committed r.content) _ _ (either s (has_lease s.leases namespace lease) _ _ (made _ _ refl refl) (made _ _ refl refl)) (made _ _ refl refl)
 
   adding : (s : State) (namespace lease name : Bytes) → R s (lease_add s namespace lease name).0
   adding s namespace lease name = either s (is_key lease && is_key name) _ _ (on_record s namespace name _ (λ place. adding_record s namespace lease name)) (made _ _ refl refl)
 
   dropping_at : (s : State) (namespace lease name : Bytes) → R s (lease_drop_at s namespace lease name).0
-  dropping_at s namespace lease name = either s (not (has_lease s.leases namespace lease)) _ _ (made _ _ refl refl) (either s (not (lease_names s.leases namespace lease name)) _ _ (made _ _ refl refl) (made _ _ refl refl))
+  dropping_at s namespace lease name = either s (has_lease s.leases namespace lease) _ _ (either s (lease_names s.leases namespace lease name) _ _ (made _ _ refl refl) (made _ _ refl refl)) (made _ _ refl refl)
 
   dropping : (s : State) (namespace lease name : Bytes) → R s (lease_drop s namespace lease name).0
   dropping s namespace lease name = either s (is_key lease && is_key name) _ _ (in_place s namespace _ (λ place. dropping_at s namespace lease name)) (made _ _ refl refl)

@@ -9,6 +9,7 @@ pub mod Marked
 pub mod Good
 pub mod Promised
 pub mod Step
+pub mod Steps
 pub mod Questions
 pub mod Kept
 pub mod Journal

@@ -45,6 +45,10 @@ over_limit s place =
     let free = minus (limit_at place s.namespaces) (charge_of place s.records) in
     OverLimit free.blocks free.inodes
 
+-- the most committed ancestors of a snapshot: a limit of this project
+abbrev pub most_ancestors : ℕ
+most_ancestors = 64
+
 -- the committed records from a parent upwards, nearest first; nothing where one is missing or isn't committed, or where there are more than so many
 abbrev pub chain_from : ℕ → List Record → ℕ → Bytes → Option (List Record)
 chain_from n rs place [] = Some []
@@ -63,13 +67,13 @@ abbrev pub is_base : ℕ → Bytes → List Record → Bool
 is_base place [] rs = true
 is_base place (b ∷ bs) rs = is_some (committed_at place (b ∷ bs) rs)
 
--- a snapshot on it would have more than 64 committed ancestors
+-- a snapshot on it would have more committed ancestors than that
 abbrev pub is_too_deep : ℕ → Bytes → List Record → Bool
-is_too_deep place parent rs = not (is_some (chain_from 64 rs place parent))
+is_too_deep place parent rs = not (is_some (chain_from most_ancestors rs place parent))
 
 -- the committed ancestors of a snapshot on it, nearest first
 abbrev pub ancestors : ℕ → Bytes → List Record → List Record
-ancestors place parent rs = unwrap_or (chain_from 64 rs place parent) []
+ancestors place parent rs = unwrap_or (chain_from most_ancestors rs place parent) []
 
 -- the ids of these snapshots, in their order
 abbrev pub ids_of : List Record → List ℕ

@@ -1,5 +1,5 @@
--- What one call answers, and the state after it. The cases of each call stand in the order in which its refusals are tested.
-use Rattle.std.specs.Prelude.{◌≡◌, ℕ, ◌+◌, ◌<◌, Bool, true, not, ◌&&◌, nat_le, nat_lt, if◌then◌else◌, List, [], ◌∷◌, ◌++◌, count_by, Option, None, Some, IsSomeAnd, max, Result, Ok, Err}
+-- What one call answers, and the state after it. The refusals of each call stand in the order in which they are tested.
+use Rattle.std.specs.Prelude.{◌≡◌, ℕ, ◌+◌, ◌<◌, Bool, true, ◌&&◌, nat_le, nat_lt, if◌then◌else◌, List, [], ◌∷◌, ◌++◌, count_by, Option, None, Some, IsSomeAnd, max, Result, Ok, Err}
 use Rattle.std.specs.Option.{option_map_or}
 use Rattle.snap_path.specs.Limits.{most_number}
 use Rattle.snap_layer.specs.Tree.{Tree}
@@ -38,9 +38,16 @@ counted s = record s { entries = s.entries + 1 }
 abbrev pub refused : State → Refusal → State × Reply
 refused s why = (counted s, Refused why)
 
--- Session: there are at most 65,536
-abbrev pub session : State → State × Reply
-session s = if nat_lt s.sessions max_sessions then (record s { sessions = s.sessions + 1; entries = s.entries + 1 }, Opened) else (s, Refused NumbersSpent)
+-- a test of a call: what has to be, or what must not be, and the refusal where it is otherwise
+pub data Test : Type 0 where
+  must : Bool → Refusal → Test
+  must_not : Bool → Refusal → Test
+
+-- what follows once all tests are passed, in their order, or what comes of the first refusal
+abbrev pub tested : {X : Type 0} → (Refusal → X) → List Test → X → X
+tested by [] next = next
+tested by (must holds why ∷ later) next = if holds then tested by later next else by why
+tested by (must_not holds why ∷ later) next = if holds then by why else tested by later next
 
 -- what follows at the place of a namespace, or the refusal of one that the store doesn't have
 abbrev pub in_namespace : State → Bytes → (ℕ → State × Reply) → State × Reply
@@ -58,17 +65,11 @@ unless_refused s (Err why) next = refused s why
 -- A new snapshot: the place of its namespace, or the first refusal of its key and its parent there
 abbrev pub place_on : ℕ → Bytes → Bytes → List Record → Result ℕ Refusal
 place_on place key parent rs =
-    if not (is_present place parent rs) then Err NotFound else
-    if has_key place key rs then Err AlreadyExists else
-    if not (is_base place parent rs) then Err NotCommitted else
-    if is_too_deep place parent rs then Err TooDeep else
-    Ok place
+    tested Err (must (is_present place parent rs) NotFound ∷ must_not (has_key place key rs) AlreadyExists ∷ must (is_base place parent rs) NotCommitted ∷ must_not (is_too_deep place parent rs) TooDeep ∷ []) (Ok place)
 
 abbrev pub place_for : State → Bytes → Bytes → Bytes → List Label → Result ℕ Refusal
 place_for s namespace key parent labels =
-    if is_key key && is_parent parent && are_labels labels
-    then option_map_or (λ place. place_on place key parent s.records) (place_of namespace s.namespaces) (Err NoNamespace)
-    else Err BadArgument
+    tested Err (must (is_key key && is_parent parent && are_labels labels) BadArgument ∷ []) (option_map_or (λ place. place_on place key parent s.records) (place_of namespace s.namespaces) (Err NoNamespace))
 
 -- a new snapshot, made by this entry
 abbrev pub new_record : State → ℕ → Bytes → Bytes → List Label → Content → Record
@@ -83,34 +84,23 @@ abbrev pub one : Usage
 one = record { blocks = 1; inodes = 1 }
 
 -- its slot, or the first refusal of one
-abbrev pub slot_or_refusal : State → ℕ → Option ℕ → Result ℕ Refusal
-slot_or_refusal s place None = Err TooManyActives
-slot_or_refusal s place (Some slot) =
-    if covers (limit_at place s.namespaces) (plus (charge_of place s.records) one)
-    then if nat_le s.next_id most_number then Ok slot else Err NumbersSpent
-    else Err (over_limit s place)
-
 abbrev pub slot_for : State → ℕ → Result ℕ Refusal
-slot_for s place = slot_or_refusal s place (lowest_free s.slots s.records)
+slot_for s place =
+    let room = covers (limit_at place s.namespaces) (plus (charge_of place s.records) one) in
+    option_map_or (λ slot. tested Err (must room (over_limit s place) ∷ must (nat_le s.next_id most_number) NumbersSpent ∷ []) (Ok slot)) (lowest_free s.slots s.records) (Err TooManyActives)
 
 abbrev pub prepared : State → ℕ → Bytes → Bytes → List Label → ℕ → State × Reply
 prepared s place key parent labels slot = (added s (new_record s place key parent labels (Active slot one)), Prepared s.next_id slot (ids_of (ancestors place parent s.records)))
 
-abbrev pub prepare_at : State → Bytes → Bytes → List Label → ℕ → State × Reply
-prepare_at s key parent labels place = unless_refused s (slot_for s place) (prepared s place key parent labels)
-
 abbrev pub prepare : State → Bytes → Bytes → Bytes → List Label → State × Reply
-prepare s namespace key parent labels = unless_refused s (place_for s namespace key parent labels) (prepare_at s key parent labels)
+prepare s namespace key parent labels = unless_refused s (place_for s namespace key parent labels) (λ place. unless_refused s (slot_for s place) (prepared s place key parent labels))
 
 -- View: a new snapshot that nothing is written to, without a slot and without a charge; it keeps the layers that it shows (containerd's Snapshotter.View). The reply has the ids of its committed ancestors, nearest first.
 abbrev pub viewed : State → ℕ → Bytes → Bytes → List Label → State × Reply
 viewed s place key parent labels = (added s (new_record s place key parent labels (View (shown_layers place parent s.records))), Viewed s.next_id (ids_of (ancestors place parent s.records)))
 
-abbrev pub view_at : State → Bytes → Bytes → List Label → ℕ → State × Reply
-view_at s key parent labels place = if nat_le s.next_id most_number then viewed s place key parent labels else refused s NumbersSpent
-
 abbrev pub prepare_view : State → Bytes → Bytes → Bytes → List Label → State × Reply
-prepare_view s namespace key parent labels = unless_refused s (place_for s namespace key parent labels) (view_at s key parent labels)
+prepare_view s namespace key parent labels = unless_refused s (place_for s namespace key parent labels) (λ place. tested (refused s) (must (nat_le s.next_id most_number) NumbersSpent ∷ []) (viewed s place key parent labels))
 
 -- Charge: the greater in each quantity
 abbrev pub greater : Usage → Usage → Usage
@@ -127,12 +117,9 @@ granted s place held need want =
     let wanted = greater needed want in
     if fits_limit s place held wanted then Some wanted else if fits_limit s place held needed then Some needed else None
 
-abbrev pub charge_to : State → ℕ → Record → Option Usage → State × Reply
-charge_to s slot r (Some to) = (record s { records = recharged slot to s.records; entries = s.entries + 1 }, Charged to)
-charge_to s slot r None = refused s (over_limit s r.namespace)
-
 abbrev pub charge : State → ℕ → Usage → Usage → Option Record → State × Reply
-charge s slot need want (Some r) = charge_to s slot r (granted s r.namespace (usage_of r.content) need want)
+charge s slot need want (Some r) =
+    option_map_or (λ to. (record s { records = recharged slot to s.records; entries = s.entries + 1 }, Charged to)) (granted s r.namespace (usage_of r.content) need want) (refused s (over_limit s r.namespace))
 charge s slot need want None = refused s NotActive
 
 -- Trim: charged for the count of its layer
@@ -153,16 +140,13 @@ abbrev pub are_formed : Bytes → Option Bytes → Option (List Label) → Bool
 are_formed name lease labels = is_key name && option_map_or is_key lease true && option_map_or are_labels labels true
 
 abbrev pub committed : State → ℕ → Bytes → Option Bytes → Option (List Label) → Tree → Record → State × Reply
-committed s slot name lease labels layer r = (
-  record s { records = with_record (committed_as name labels layer (s.entries + 1) r) (without_slot slot s.records); leases = leases_after s r.namespace name lease; entries = s.entries + 1 },
-  Committed r.id (count_of layer),
-)
+committed s slot name lease labels layer r =
+    let records = with_record (committed_as name labels layer (s.entries + 1) r) (without_slot slot s.records) in
+    (record s { records = records; leases = leases_after s r.namespace name lease; entries = s.entries + 1 }, Committed r.id (count_of layer))
 
 abbrev pub commit_as : State → ℕ → Bytes → Option Bytes → Option (List Label) → Tree → Option Record → State × Reply
 commit_as s slot name lease labels layer (Some r) =
-    if are_formed name lease labels
-    then if has_key r.namespace name s.records then refused s AlreadyExists else if has_named s r.namespace lease then committed s slot name lease labels layer r else refused s NoLease
-    else refused s BadArgument
+    tested (refused s) (must (are_formed name lease labels) BadArgument ∷ must_not (has_key r.namespace name s.records) AlreadyExists ∷ must (has_named s r.namespace lease) NoLease ∷ []) (committed s slot name lease labels layer r)
 commit_as s slot name lease labels layer None = refused s NotActive
 
 abbrev pub commit : State → ℕ → Bytes → Option Bytes → Option (List Label) → Given → State × Reply
@@ -174,108 +158,51 @@ abbrev pub discard : State → ℕ → Option Record → State × Reply
 discard s slot (Some r) = (record s { records = without_slot slot s.records; entries = s.entries + 1 }, Discarded (usage_of r.content))
 discard s slot None = refused s NotActive
 
--- Remove: a snapshot goes that is no parent, isn't active and is named by no lease, and what it was charged is answered (containerd's Snapshotter.Remove)
+-- the state without the snapshot of the key in the namespace at the place
 abbrev pub removed_at : State → ℕ → Bytes → State
 removed_at s place key = record s { records = without_key place key s.records; entries = s.entries + 1 }
 
-abbrev pub remove_record : State → Bytes → Bytes → ℕ → Record → State × Reply
-remove_record s namespace key place r =
-    if has_children place key s.records then refused s HasChildren else
-    if is_active r.content then refused s InUse else
-    if is_guarded s.leases namespace key then refused s Leased else
-    (removed_at s place key, Removed (usage_of r.content))
-
-abbrev pub remove : State → Bytes → Bytes → State × Reply
-remove s namespace key = if is_key key then at_record s namespace key (remove_record s namespace key) else refused s BadArgument
-
 -- Stat, Usage, Mounts: what is asked of a record
 abbrev pub ask : State → (Record → Reply) → Bytes → Bytes → State × Reply
-ask s answer namespace key = if is_key key then at_record s namespace key (λ place r. (counted s, answer r)) else refused s BadArgument
+ask s answer namespace key = tested (refused s) (must (is_key key) BadArgument ∷ []) (at_record s namespace key (λ place r. (counted s, answer r)))
 
 -- Mounts: the mounts that show a snapshot over its committed ancestors; a committed one is not mounted (containerd's Snapshotter.Mounts)
 abbrev pub mounts : State → Record → Reply
 mounts s r = if is_committed r.content then Refused NotActive else MountsReply (mounts_of s.root (kind_of r.content) r.id (ids_of (ancestors r.namespace r.parent s.records)))
 
--- Update: labels by field paths (containerd's Snapshotter.Update). The reply is the info with the labels after it; a result of more than 64 labels is refused.
+-- the state with these labels of the snapshot of the key
 abbrev pub relabelled_at : State → ℕ → Bytes → List Label → State
 relabelled_at s place key labels = record s { records = relabelled place key labels (s.entries + 1) s.records; entries = s.entries + 1 }
 
+-- Update: labels by field paths (containerd's Snapshotter.Update). The reply is the info with the labels after it; a result of more than 64 labels is refused.
 abbrev pub update_record : State → Bytes → List Label → List Bytes → ℕ → Record → State × Reply
 update_record s key given paths place r =
     let labels = labels_after r.labels given paths in
-    if is_granted r.labels given paths then (relabelled_at s place key labels, Info (info_of (with_labels labels (s.entries + 1) r))) else refused s BadArgument
+    tested (refused s) (must (is_granted r.labels given paths) BadArgument ∷ []) (relabelled_at s place key labels, Info (info_of (with_labels labels (s.entries + 1) r)))
 
-abbrev pub update : State → Bytes → Bytes → List Label → List Bytes → State × Reply
-update s namespace key given paths = if is_key key && is_well_formed given paths then at_record s namespace key (update_record s key given paths) else refused s BadArgument
-
--- Walk: the infos of the snapshots of a namespace that come after a key and have every part of a filter, at most so many (containerd's Snapshotter.Walk, page by page)
-abbrev pub walk_infos : State → Bytes → Bytes → ℕ → Filter → State × Reply
-walk_infos s namespace after most asked = if is_start after && is_page most then in_namespace s namespace (λ place. (counted s, Page (info_page place after most asked s.records))) else refused s BadArgument
-
--- SetLimit: another limit of a namespace, which has to cover what it is charged
+-- the state with another limit of the namespace at the place
 abbrev pub limited_at : State → ℕ → Usage → State
 limited_at s place limit = record s { namespaces = with_limit place limit s.namespaces; entries = s.entries + 1 }
-
-abbrev pub set_limit_at : State → Usage → ℕ → State × Reply
-set_limit_at s limit place = if covers limit (charge_of place s.records) then (limited_at s place limit, Done) else refused s BelowCharge
-
-abbrev pub set_limit : State → Bytes → Usage → State × Reply
-set_limit s namespace limit = if is_limit limit then in_namespace s namespace (set_limit_at s limit) else refused s BadArgument
 
 -- the state with these leases
 abbrev pub leasing : State → List Lease → State
 leasing s leases = record s { leases = leases; entries = s.entries + 1 }
-
--- LeaseCreate: a lease that names nothing yet, with a last moment or none (containerd's leases.Manager.Create)
-abbrev pub lease_create_at : State → Bytes → Bytes → Option ℕ → State × Reply
-lease_create_at s namespace lease until = if has_lease s.leases namespace lease then refused s LeaseExists else (leasing s (s.leases ++ empty_lease namespace lease until ∷ []), Done)
-
-abbrev pub lease_create : State → Bytes → Bytes → Option ℕ → State × Reply
-lease_create s namespace lease until = if is_key lease then in_namespace s namespace (λ place. lease_create_at s namespace lease until) else refused s BadArgument
-
--- LeaseAdd: the lease names a committed snapshot too, live or ended (containerd's leases.Manager.AddResource)
-abbrev pub lease_add_record : State → Bytes → Bytes → Bytes → Record → State × Reply
-lease_add_record s namespace lease name r =
-    if not (is_committed r.content) then refused s NotCommitted else
-    if not (has_lease s.leases namespace lease) then refused s NoLease else
-    (leasing s (with_name_added s.leases namespace lease name), Done)
-
-abbrev pub lease_add : State → Bytes → Bytes → Bytes → State × Reply
-lease_add s namespace lease name = if is_key lease && is_key name then at_record s namespace name (λ place. lease_add_record s namespace lease name) else refused s BadArgument
-
--- LeaseDrop: the lease names the snapshot no longer (containerd's leases.Manager.DeleteResource)
-abbrev pub lease_drop_at : State → Bytes → Bytes → Bytes → State × Reply
-lease_drop_at s namespace lease name =
-    if not (has_lease s.leases namespace lease) then refused s NoLease else
-    if not (lease_names s.leases namespace lease name) then refused s NotFound else
-    (leasing s (with_name_dropped s.leases namespace lease name), Done)
-
-abbrev pub lease_drop : State → Bytes → Bytes → Bytes → State × Reply
-lease_drop s namespace lease name = if is_key lease && is_key name then in_namespace s namespace (λ place. lease_drop_at s namespace lease name) else refused s BadArgument
-
--- LeaseRelease: the lease goes with its names, and no snapshot does (containerd's leases.Manager.Delete)
-abbrev pub lease_release_at : State → Bytes → Bytes → State × Reply
-lease_release_at s namespace lease = if has_lease s.leases namespace lease then (leasing s (without_lease s.leases namespace lease), Done) else refused s NoLease
-
-abbrev pub lease_release : State → Bytes → Bytes → State × Reply
-lease_release s namespace lease = if is_key lease then in_namespace s namespace (λ place. lease_release_at s namespace lease) else refused s BadArgument
 
 -- Sweep: the namespace's leases that have ended at the moment go, and those of its committed snapshots that are not reached. The reply has the keys of these, how many leases went, and what the snapshots were charged.
 abbrev pub swept_at : State → Bytes → ℕ → ℕ → State
 swept_at s namespace place moment = record s { records = unswept s namespace place moment; leases = without_ended s.leases namespace moment; entries = s.entries + 1 }
 
 abbrev pub sweep_at : State → Bytes → ℕ → ℕ → State × Reply
-sweep_at s namespace moment place = (
-  swept_at s namespace place moment,
-  Swept (swept_keys s namespace place moment) (count_by (has_ended namespace moment) s.leases) (charge_of place (swept s namespace place moment)),
-)
+sweep_at s namespace moment place =
+    (swept_at s namespace place moment, Swept (swept_keys s namespace place moment) (count_by (has_ended namespace moment) s.leases) (charge_of place (swept s namespace place moment)))
 
 abbrev pub sweep : State → Bytes → ℕ → State × Reply
 sweep s namespace moment = in_namespace s namespace (sweep_at s namespace moment)
 
 -- one call: the state after it, and its reply
 abbrev pub step : State → Call → Given → State × Reply
-step s calls.Session given = session s
+-- at most 65,536 sessions are opened
+step s calls.Session given = if nat_lt s.sessions max_sessions then (record s { sessions = s.sessions + 1; entries = s.entries + 1 }, Opened) else (s, Refused NumbersSpent)
 step s (calls.Prepare namespace key parent labels) given = prepare s namespace key parent labels
 step s (calls.Charge slot id need want) given = charge s slot need want (active_at slot s.records)
 step s (calls.Trim slot id) given = trim s slot given (active_at slot s.records)
@@ -285,14 +212,30 @@ step s (calls.Stat namespace key) given = ask s (λ r. Info (info_of r)) namespa
 step s (calls.Usage namespace key) given = ask s (λ r. UsageReply (usage_of r.content)) namespace key
 step s (calls.Mounts namespace key) given = ask s (mounts s) namespace key
 step s (calls.View namespace key parent labels) given = prepare_view s namespace key parent labels
-step s (calls.Remove namespace key) given = remove s namespace key
-step s (calls.Update namespace key labels paths) given = update s namespace key labels paths
-step s (calls.Walk namespace after most asked) given = walk_infos s namespace after most asked
-step s (calls.SetLimit namespace limit) given = set_limit s namespace limit
-step s (calls.LeaseCreate namespace lease until) given = lease_create s namespace lease until
-step s (calls.LeaseAdd namespace lease name) given = lease_add s namespace lease name
-step s (calls.LeaseDrop namespace lease name) given = lease_drop s namespace lease name
-step s (calls.LeaseRelease namespace lease) given = lease_release s namespace lease
+-- a snapshot goes that is no parent, isn't active and is named by no lease, and what it was charged is answered (containerd's Snapshotter.Remove)
+step s (calls.Remove namespace key) given =
+    tested (refused s) (must (is_key key) BadArgument ∷ []) (at_record s namespace key (λ place r.
+    tested (refused s) (must_not (has_children place key s.records) HasChildren ∷ must_not (is_active r.content) InUse ∷ must_not (is_guarded s.leases namespace key) Leased ∷ []) (removed_at s place key, Removed (usage_of r.content))))
+step s (calls.Update namespace key labels paths) given = tested (refused s) (must (is_key key && is_well_formed labels paths) BadArgument ∷ []) (at_record s namespace key (update_record s key labels paths))
+-- the infos of the snapshots of a namespace that come after a key and have every part of a filter, at most so many (containerd's Snapshotter.Walk, page by page)
+step s (calls.Walk namespace after most asked) given = tested (refused s) (must (is_start after && is_page most) BadArgument ∷ []) (in_namespace s namespace (λ place. (counted s, Page (info_page place after most asked s.records))))
+-- a namespace's other limit has to cover what it is charged
+step s (calls.SetLimit namespace limit) given =
+    tested (refused s) (must (is_limit limit) BadArgument ∷ []) (in_namespace s namespace (λ place. tested (refused s) (must (covers limit (charge_of place s.records)) BelowCharge ∷ []) (limited_at s place limit, Done)))
+-- a lease that names nothing yet, with a last moment or none (containerd's leases.Manager.Create)
+step s (calls.LeaseCreate namespace lease until) given =
+    tested (refused s) (must (is_key lease) BadArgument ∷ []) (in_namespace s namespace (λ place. tested (refused s) (must_not (has_lease s.leases namespace lease) LeaseExists ∷ []) (leasing s (s.leases ++ empty_lease namespace lease until ∷ []), Done)))
+-- the lease names a committed snapshot too, live or ended (containerd's leases.Manager.AddResource)
+step s (calls.LeaseAdd namespace lease name) given =
+    tested (refused s) (must (is_key lease && is_key name) BadArgument ∷ []) (at_record s namespace name (λ place r.
+    tested (refused s) (must (is_committed r.content) NotCommitted ∷ must (has_lease s.leases namespace lease) NoLease ∷ []) (leasing s (with_name_added s.leases namespace lease name), Done)))
+-- the lease names the snapshot no longer (containerd's leases.Manager.DeleteResource)
+step s (calls.LeaseDrop namespace lease name) given =
+    tested (refused s) (must (is_key lease && is_key name) BadArgument ∷ []) (in_namespace s namespace (λ place.
+    tested (refused s) (must (has_lease s.leases namespace lease) NoLease ∷ must (lease_names s.leases namespace lease name) NotFound ∷ []) (leasing s (with_name_dropped s.leases namespace lease name), Done)))
+-- the lease goes with its names, and no snapshot does (containerd's leases.Manager.Delete)
+step s (calls.LeaseRelease namespace lease) given =
+    tested (refused s) (must (is_key lease) BadArgument ∷ []) (in_namespace s namespace (λ place. tested (refused s) (must (has_lease s.leases namespace lease) NoLease ∷ []) (leasing s (without_lease s.leases namespace lease), Done)))
 step s (calls.Sweep namespace moment) given = sweep s namespace moment
 
 -- the slot is open under the id

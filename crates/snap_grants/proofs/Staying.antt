@@ -1,7 +1,7 @@
 -- What calls leave that grant no snapshot and take none away.
 use Rattle.std.proofs.Common.{◌≡◌, ℕ, ◌+◌, ◌≤◌, Bool, true, false, List, Option, Some, None, refl, arith}
 use Rattle.std.specs.Option.{option_map_or}
-use Rattle.std.specs.Prelude.{if◌then◌else◌, ◌&&◌, not, nat_le, nat_lt, Result, Ok, Err}
+use Rattle.std.specs.Prelude.{if◌then◌else◌, ◌&&◌, nat_le, nat_lt, Result, Ok, Err}
 use Rattle.snap_path.specs.Limits.{most_number}
 use Rattle.snap_usage.specs.declared.usage.Usage.{Usage}
 use Rattle.snap_usage.specs.Counted.{covers}
@@ -25,7 +25,9 @@ use Rattle.snap_call.specs.declared.state.State.{State}
 use Rattle.snap_call.specs.Forms.{is_key, is_limit, is_page, is_start}
 use Rattle.snap_call.specs.Records.{record_at, is_slot, is_committed, active_at, charge_of, recharged, max_sessions}
 use Rattle.snap_call.specs.State.{place_of, shown_layers}
-use Rattle.snap_call.specs.Step.{counted, refused, session, unless_refused, place_for, granted, charge_to, charge, trim, discard, ask, mounts, viewed, view_at, prepare_view, update_record, update, walk_infos, in_namespace, limited_at, set_limit_at, set_limit, lease_create, lease_add_record, lease_add, lease_drop, lease_drop_at, lease_release, step, at_record, new_record, relabelled_at}
+use Rattle.snap_call.specs.Step.{counted, refused, unless_refused, place_for, granted, charge, trim, discard, ask, mounts, viewed, prepare_view, update_record, in_namespace, limited_at, step, at_record, new_record, relabelled_at}
+use Rattle.snap_call.specs.Steps.{session, update, walk_infos, set_limit, lease_create, lease_add, lease_drop, lease_release}
+use Rattle.snap_call.proofs.Parts.{charge_to, view_at, set_limit_at, lease_add_record, lease_drop_at}
 use Rattle.snap_call.proofs.Lists.{all-with_record, all-without}
 use Rattle.snap_grants.specs.Grants.{Stored, Origin, worth}
 use Rattle.snap_grants.proofs.Weights.{Comes, AllCome, weights-with_record, weights-without_slot, weights-recharged, weights-relabelled, weights-limited, comes-recharged, comes-relabelled, comes-limited}
@@ -157,13 +159,13 @@ module _ (s : State) where
   stays_create namespace lease until = either P (is_key lease) _ _ (in_place namespace _ (λ place. either P (has_lease s.leases namespace lease) _ _ counts (leased _))) counts
 
   stays_add_record : (namespace lease name : Bytes) (r : Record) → P (lease_add_record s namespace lease name r)
-  stays_add_record namespace lease name r = either P (not (is_committed r.content)) _ _ counts (either P (not (has_lease s.leases namespace lease)) _ _ counts (leased _))
+  stays_add_record namespace lease name r = either P (is_committed r.content) _ _ (either P (has_lease s.leases namespace lease) _ _ (leased _) counts) counts
 
   stays_add : (namespace lease name : Bytes) → P (lease_add s namespace lease name)
   stays_add namespace lease name = either P (is_key lease && is_key name) _ _ (on_record namespace name _ (λ place. stays_add_record namespace lease name)) counts
 
   stays_drop_at : (namespace lease name : Bytes) → P (lease_drop_at s namespace lease name)
-  stays_drop_at namespace lease name = either P (not (has_lease s.leases namespace lease)) _ _ counts (either P (not (lease_names s.leases namespace lease name)) _ _ counts (leased _))
+  stays_drop_at namespace lease name = either P (has_lease s.leases namespace lease) _ _ (either P (lease_names s.leases namespace lease name) _ _ (leased _) counts) counts
 
   stays_drop : (namespace lease name : Bytes) → P (lease_drop s namespace lease name)
   stays_drop namespace lease name = either P (is_key lease && is_key name) _ _ (in_place namespace _ (λ place. stays_drop_at namespace lease name)) counts

@@ -2,7 +2,7 @@
 use Rattle.std.proofs.Common.{◌≡◌, ℕ, ◌+◌, ◌<◌, List, [], ◌∷◌, Bool, true, false, Some, None, refl, ap, ◌∙◌, arith}
 use Rattle.std.proofs.lemmas.Bool.Decides.{nat_tests}
 use Rattle.std.specs.Option.{option_map_or}
-use Rattle.std.specs.Prelude.{◌&&◌, not, nat_le, nat_lt, if◌then◌else◌, Option, Result, Ok, Err}
+use Rattle.std.specs.Prelude.{◌&&◌, nat_le, nat_lt, if◌then◌else◌, Option, Result, Ok, Err}
 use Rattle.snap_path.specs.Limits.{most_number}
 use Rattle.snap_layer.specs.Tree.{Tree}
 use Rattle.snap_usage.specs.declared.usage.Usage.{Usage}
@@ -26,7 +26,9 @@ use Rattle.snap_call.specs.declared.state.State.{State}
 use Rattle.snap_call.specs.Forms.{is_key, is_limit, is_page, is_start}
 use Rattle.snap_call.specs.Records.{record_at, has_key, has_children, is_active, is_committed, active_at, charge_of, max_sessions}
 use Rattle.snap_call.specs.State.{place_of}
-use Rattle.snap_call.specs.Step.{are_formed, refused, session, prepared, prepare_at, prepare, granted, charge_to, charge, trim, commit_as, commit, discard, ask, step, IsAllowed, place_for, slot_for, unless_refused, mounts, view_at, prepare_view, remove_record, remove, update_record, update, walk_infos, in_namespace, has_named, set_limit_at, set_limit, lease_create, lease_add_record, lease_add, lease_drop, lease_drop_at, lease_release, sweep_at, at_record}
+use Rattle.snap_call.specs.Step.{are_formed, refused, prepared, prepare, granted, charge, trim, commit_as, commit, discard, ask, step, IsAllowed, place_for, slot_for, unless_refused, mounts, prepare_view, update_record, in_namespace, has_named, sweep_at, at_record}
+use Rattle.snap_call.specs.Steps.{session, remove, update, walk_infos, set_limit, lease_create, lease_add, lease_drop, lease_release}
+use Rattle.snap_call.proofs.Parts.{prepare_at, charge_to, view_at, remove_record, set_limit_at, lease_add_record, lease_drop_at}
 use Rattle.snap_call.specs.Journal.{Replays}
 use Rattle.snap_call.proofs.Leasing.{place_of-limited}
 
@@ -128,13 +130,13 @@ creating : (s : State) (namespace lease : Bytes) (until : Option ℕ) → IsNext
 creating s namespace lease until = either s (is_key lease) _ _ (in_place s namespace _ (λ place. either s (has_lease s.leases namespace lease) _ _ (λ name. refl) (λ name. refl))) (λ name. refl)
 
 adding_record : (s : State) (namespace lease name : Bytes) (r : Record) → IsNext s (lease_add_record s namespace lease name r).0
-adding_record s namespace lease name r = either s (not (is_committed r.content)) _ _ (λ name. refl) (either s (not (has_lease s.leases namespace lease)) _ _ (λ name. refl) (λ name. refl))
+adding_record s namespace lease name r = either s (is_committed r.content) _ _ (either s (has_lease s.leases namespace lease) _ _ (λ name. refl) (λ name. refl)) (λ name. refl)
 
 adding : (s : State) (namespace lease name : Bytes) → IsNext s (lease_add s namespace lease name).0
 adding s namespace lease name = either s (is_key lease && is_key name) _ _ (on_record s namespace name _ (λ place. adding_record s namespace lease name)) (λ name. refl)
 
 dropping_at : (s : State) (namespace lease name : Bytes) → IsNext s (lease_drop_at s namespace lease name).0
-dropping_at s namespace lease name = either s (not (has_lease s.leases namespace lease)) _ _ (λ name. refl) (either s (not (lease_names s.leases namespace lease name)) _ _ (λ name. refl) (λ name. refl))
+dropping_at s namespace lease name = either s (has_lease s.leases namespace lease) _ _ (either s (lease_names s.leases namespace lease name) _ _ (λ name. refl) (λ name. refl)) (λ name. refl)
 
 dropping : (s : State) (namespace lease name : Bytes) → IsNext s (lease_drop s namespace lease name).0
 dropping s namespace lease name = either s (is_key lease && is_key name) _ _ (in_place s namespace _ (λ place. dropping_at s namespace lease name)) (λ name. refl)

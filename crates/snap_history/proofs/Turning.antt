@@ -6,7 +6,7 @@ use Rattle.std.proofs.lemmas.List.{get_or-set_same, get_or-set_other}
 use Rattle.std.proofs.lemmas.Slice.Eq.{bytes_eq-Decides}
 use Rattle.std.proofs.Math.ListN.{length-set}
 use Rattle.std.specs.Option.{option_map, option_map_or, option_or, is_some}
-use Rattle.std.specs.Prelude.{◌==◌, ◌&&◌, not, nat_le, nat_lt, if◌then◌else◌, bytes_eq, Result, Ok, Err}
+use Rattle.std.specs.Prelude.{◌==◌, ◌&&◌, nat_le, nat_lt, if◌then◌else◌, bytes_eq, Result, Ok, Err}
 use Rattle.snap_path.specs.Limits.{most_number}
 use Rattle.snap_layer.specs.Tree.{Tree}
 use Rattle.snap_usage.specs.declared.usage.Usage.{Usage}
@@ -33,7 +33,9 @@ use Rattle.snap_call.specs.Good.{Good}
 use Rattle.snap_call.specs.Reached.{swept, unswept}
 use Rattle.snap_call.specs.Records.{active_at, charge_of, committed_as, has_children, has_key, is_active, is_committed, is_named, is_slot, record_at, recharged, relabelled, with_record, without_key, without_slot, HasLowSlot, max_sessions}
 use Rattle.snap_call.specs.State.{place_of, shown_layers}
-use Rattle.snap_call.specs.Step.{are_formed, IsAllowed, IsCovered, IsOpenSlot, ask, charge, charge_to, counted, commit_as, committed as committed_state, discard, has_named, in_namespace, lease_add, lease_add_record, lease_create, lease_drop, lease_drop_at, lease_release, mounts, one, place_for, prepare, prepare_at, prepared as prepared_state, refused, remove, remove_record, removed_at, session, set_limit, set_limit_at, slot_for, step, sweep, sweep_at, trim, unless_refused, update, update_record, prepare_view, view_at, walk_infos, at_record, new_record}
+use Rattle.snap_call.specs.Step.{are_formed, IsAllowed, IsCovered, IsOpenSlot, ask, charge, counted, commit_as, committed as committed_state, discard, has_named, in_namespace, mounts, one, place_for, prepare, prepared as prepared_state, refused, removed_at, slot_for, step, sweep, sweep_at, trim, unless_refused, update_record, prepare_view, at_record, new_record}
+use Rattle.snap_call.specs.Steps.{lease_add, lease_create, lease_drop, lease_release, remove, session, set_limit, update, walk_infos}
+use Rattle.snap_call.proofs.Parts.{charge_to, lease_add_record, lease_drop_at, prepare_at, remove_record, set_limit_at, view_at}
 use Rattle.snap_call.proofs.Alike.{AreAlike, bare-relabelled, alike-active_at, alike-active_at_None, alike-charge_of}
 use Rattle.snap_call.proofs.Keeping.{same_name}
 use Rattle.snap_call.proofs.Leasing.{place_of-limited}
@@ -220,8 +222,9 @@ module _ (name : Bytes) (place : ℕ) (s : State) (shares : List (Option Usage))
 
   even_lease_add_record : (namespace lease key : Bytes) (r : Record) → Evenly (lease_add_record s namespace lease key r)
   even_lease_add_record namespace lease key r =
-      cases_if Evenly (not (is_committed r.content)) _ _ (λ other. even_refused _)
-      (λ is. cases_if Evenly (not (has_lease s.leases namespace lease)) _ _ (λ none. even_refused _) (λ there. even_same _ replies.Done refl refl refl tt))
+      cases_if Evenly (is_committed r.content) _ _
+      (λ is. cases_if Evenly (has_lease s.leases namespace lease) _ _ (λ there. even_same _ replies.Done refl refl refl tt) (λ none. even_refused _))
+      (λ other. even_refused _)
 
   even_lease_add : (namespace lease key : Bytes) → Evenly (lease_add s namespace lease key)
   even_lease_add namespace lease key =
@@ -231,8 +234,9 @@ module _ (name : Bytes) (place : ℕ) (s : State) (shares : List (Option Usage))
 
   even_lease_drop_at : (namespace lease key : Bytes) → Evenly (lease_drop_at s namespace lease key)
   even_lease_drop_at namespace lease key =
-      cases_if Evenly (not (has_lease s.leases namespace lease)) _ _ (λ none. even_refused _)
-      (λ there. cases_if Evenly (not (lease_names s.leases namespace lease key)) _ _ (λ other. even_refused _) (λ named. even_same _ replies.Done refl refl refl tt))
+      cases_if Evenly (has_lease s.leases namespace lease) _ _
+      (λ there. cases_if Evenly (lease_names s.leases namespace lease key) _ _ (λ named. even_same _ replies.Done refl refl refl tt) (λ other. even_refused _))
+      (λ none. even_refused _)
 
   even_lease_drop : (namespace lease key : Bytes) → Evenly (lease_drop s namespace lease key)
   even_lease_drop namespace lease key =

@@ -10,7 +10,7 @@ use Rattle.snap_record.specs.declared.record.Content.{Content}
 use Rattle.snap_record.specs.declared.record.Content.TheVariants.{View, Active, Committed}
 use Rattle.snap_record.specs.declared.record.Record.{Record}
 use Rattle.snap_call.specs.Records.{is_committed, record_at}
-use Rattle.snap_call.specs.State.{ancestors, chain_from, ids_of, layer_of, layers_of, or_empty, shown_layers}
+use Rattle.snap_call.specs.State.{ancestors, chain_from, ids_of, layer_of, layers_of, or_empty, shown_layers, most_ancestors}
 
 -- ---- a chain has a layer for each id
 
@@ -51,7 +51,7 @@ length-ids [] = refl
 length-ids (r ∷ rs) = ap suc (length-ids rs)
 
 pub one_for_each : (place : ℕ) (parent : Bytes) (rs : List Record) → length (layers_of (ancestors place parent rs)) ≡ length (ids_of (ancestors place parent rs))
-one_for_each place parent rs = of_chain (chain_from 64 rs place parent) (has_layers 64 rs place parent) ∙ sym (length-ids (ancestors place parent rs))
+one_for_each place parent rs = of_chain (chain_from most_ancestors rs place parent) (has_layers most_ancestors rs place parent) ∙ sym (length-ids (ancestors place parent rs))
 
 -- ---- without a parent there are none
 

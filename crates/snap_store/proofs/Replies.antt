@@ -1,5 +1,5 @@
 -- Which replies the plain calls have.
-use Rattle.std.specs.Prelude.{if◌then◌else◌, Bool, true, false, not}
+use Rattle.std.specs.Prelude.{if◌then◌else◌, Bool, true, false}
 use Rattle.std.specs.Option.{option_map_or}
 use Rattle.std.proofs.Common.{ℕ, List, Option, None, Some, sym, subst}
 use Rattle.snap_record.specs.Labels.{Bytes, Label}
@@ -21,7 +21,9 @@ use Rattle.snap_call.specs.declared.state.State.{State}
 use Rattle.snap_call.specs.Forms.{is_key}
 use Rattle.snap_call.specs.Records.{has_children, is_active, is_committed, record_at}
 use Rattle.snap_call.specs.State.{place_of}
-use Rattle.snap_call.specs.Step.{ask, lease_add, lease_add_record, lease_create, lease_drop, lease_drop_at, lease_release, leasing, mounts, refused, remove, remove_record, removed_at, set_limit, step, sweep, update, walk_infos, at_record}
+use Rattle.snap_call.specs.Step.{ask, leasing, mounts, refused, removed_at, step, sweep, at_record}
+use Rattle.snap_call.specs.Steps.{lease_add, lease_create, lease_drop, lease_release, remove, set_limit, update, walk_infos}
+use Rattle.snap_call.proofs.Parts.{lease_add_record, lease_drop_at, remove_record}
 use Rattle.snap_accounts.specs.Entries.{IsPlain}
 use Rattle.snap_book.specs.Book.{AnsweredBy, BookValue}
 use Rattle.snap_store.specs.Replies.{AreMounts, IsDone, IsInfo, IsPage, IsRemoval, IsReplyTo, IsSweep, IsUsage}
@@ -87,28 +89,28 @@ of_lease P s namespace lease until why other =
     either P _ _ _ (in_place P s (place_of namespace s.namespaces) _ _ (λ place. either P _ _ _ (why _) other) (why _)) (why _)
 
 added_by : (P : Reply → Type 0) (s t : State) (a b : Bool) → ((why : Refusal) → P (replies.Refused why)) → P replies.Done
-    → P (if a then refused s NotCommitted else if b then refused s NoLease else (t, replies.Done)).1
-added_by P s t true b why other = why _
-added_by P s t false true why other = why _
-added_by P s t false false why other = other
+    → P (if a then if b then (t, replies.Done) else refused s NoLease else refused s NotCommitted).1
+added_by P s t true true why other = other
+added_by P s t true false why other = why _
+added_by P s t false b why other = why _
 
 added_to : (P : Reply → Type 0) (s : State) (namespace lease name : Bytes) (r : Record) → ((why : Refusal) → P (replies.Refused why)) → P replies.Done → P (lease_add_record s namespace lease name r).1
 added_to P s namespace lease name r why other =
-    added_by P s (leasing s (with_name_added s.leases namespace lease name)) (not (is_committed r.content)) (not (has_lease s.leases namespace lease)) why other
+    added_by P s (leasing s (with_name_added s.leases namespace lease name)) (is_committed r.content) (has_lease s.leases namespace lease) why other
 
 of_lease_add : (P : Reply → Type 0) (s : State) (namespace lease name : Bytes) → ((why : Refusal) → P (replies.Refused why)) → P replies.Done → P (lease_add s namespace lease name).1
 of_lease_add P s namespace lease name why other =
     either P _ _ _ (at_found P s namespace name _ why (λ place r. added_to P s namespace lease name r why other)) (why _)
 
 dropped_by : (P : Reply → Type 0) (s t : State) (a b : Bool) → ((why : Refusal) → P (replies.Refused why)) → P replies.Done
-    → P (if a then refused s NoLease else if b then refused s NotFound else (t, replies.Done)).1
-dropped_by P s t true b why other = why _
-dropped_by P s t false true why other = why _
-dropped_by P s t false false why other = other
+    → P (if a then if b then (t, replies.Done) else refused s NotFound else refused s NoLease).1
+dropped_by P s t true true why other = other
+dropped_by P s t true false why other = why _
+dropped_by P s t false b why other = why _
 
 of_lease_drop_at : (P : Reply → Type 0) (s : State) (namespace lease name : Bytes) → ((why : Refusal) → P (replies.Refused why)) → P replies.Done → P (lease_drop_at s namespace lease name).1
 of_lease_drop_at P s namespace lease name why other =
-    dropped_by P s (leasing s (with_name_dropped s.leases namespace lease name)) (not (has_lease s.leases namespace lease)) (not (lease_names s.leases namespace lease name)) why other
+    dropped_by P s (leasing s (with_name_dropped s.leases namespace lease name)) (has_lease s.leases namespace lease) (lease_names s.leases namespace lease name) why other
 
 of_lease_drop : (P : Reply → Type 0) (s : State) (namespace lease name : Bytes) → ((why : Refusal) → P (replies.Refused why)) → P replies.Done → P (lease_drop s namespace lease name).1
 of_lease_drop P s namespace lease name why other =

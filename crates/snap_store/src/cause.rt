@@ -5,9 +5,10 @@ ghost use Rattle.snap_call.specs.State.{name_at};
 ghost use Rattle.snap_book.specs.Book.{BookValue};
 ghost use Rattle.snap_tape.specs.Sessions.{IsCheck};
 ghost use Rattle.snap_tape.specs.Tapes.{SessionValue};
-ghost use Rattle.snap_store.specs.Closing.{IsCause, open_keys};
+ghost use Rattle.snap_store.specs.Closing.{IsCause, KeptBook, open_keys};
 
 use snap_book::Book;
+use snap_call::Records;
 use snap_ledger::StoreName;
 use snap_path::NoMemory;
 use snap_record::{Content, Record, Sequence, Text};
@@ -60,11 +61,16 @@ fn key_of<N: StoreName>(
     })
 }
 
-// The keys of the snapshots that are open.
-fn open_keys<N: StoreName>(alloc: Global, book: &Book<N>) -> Result<Sequence<OpenKey>, NoMemory>
+// The keys of the snapshots that are open among the book's records.
+fn open_keys<N: StoreName>(
+    alloc: Global,
+    book: &Book<N>,
+    records: &Records,
+) -> Result<Sequence<OpenKey>, NoMemory>
+    requires { records.now ≡ book.now.state.records }
     ensures { IfOk result (λ keys. keys ≡ open_keys book.now.state) }
 {
-    let records = book.records().list(alloc)?;
+    let records = records.list(alloc)?;
     let mut keys = Sequence::new(alloc);
     for record in &records {
         if is_active(record) {
@@ -98,11 +104,14 @@ pub fn close_cause<N: StoreName>(
     sessions: &[Session],
 ) -> Result<Option<Cause>, NoMemory>
     ensures cause { IfOk result (λ cause. IsCause book.now sessions.now cause) }
+    // What the book keeps, where its round began without open snapshots.
+    ensures kept { open_count book.now.opening.records ≡ 0 → KeptBook book.now }
     // Memory is taken for the list of what is open alone.
     ensures memory { IfErr result (λ _. 0 < open_count book.now.state.records) }
 {
+    let records = book.records();
     if book.open_slots() > 0 {
-        return Ok(Some(Cause::StillOut(open_keys(alloc, book)?)));
+        return Ok(Some(Cause::StillOut(open_keys(alloc, book, records)?)));
     }
     Ok(cause_of(check_sessions(alloc, book.journal(), sessions)))
 }

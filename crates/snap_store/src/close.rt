@@ -136,7 +136,7 @@ impl<N: RoundName> NotClosed<N> {
         cause: Cause,
     ) -> NotClosed<N>
         requires refused { IsClosingRefusal book sessions.items cause }
-        requires began { open_count book.opening.records ≡ 0 }
+        requires kept { KeptBook book }
         requires whole { tie ≡ whole_round (round_of book) }
         requires layers { HasLayers (round_of book) layer_inodes }
         requires made { tapes ≡ length book.journal }
@@ -144,8 +144,6 @@ impl<N: RoundName> NotClosed<N> {
         ensures returned { result.sessions ≡ sessions }
         ensures cause { HasCause result.store result.sessions.items result.cause }
     {
-        // The clauses of the records tell what the book keeps.
-        let _records = book.records();
         NotClosed {
             store: Store::of(alloc, book, tie, layer_inodes, tapes),
             sessions,
@@ -158,13 +156,9 @@ impl<N: RoundName> Closed<N> {
     // The closed store of a book.
     fn of(alloc: Global, book: Book<N>, tie: Tie<N>) -> Closed<N>
         requires idle { open_count book.state.records ≡ 0 }
-        requires began { open_count book.opening.records ≡ 0 }
         requires whole { tie ≡ whole_round (round_of book) }
         ensures closed { result ≡ book }
-        ensures kept { KeptBook book }
     {
-        // The clauses of the records tell what the book keeps.
-        let _records = book.records();
         Closed { alloc, book, tie }
     }
 

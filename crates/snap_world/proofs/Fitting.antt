@@ -1,6 +1,6 @@
 -- Each step keeps the hands those of the open slots.
 use Rattle.std.proofs.Common.{◌≡◌, ◌≢◌, inl, inr, ℕ, ◌+◌, ◌≤◌, ◌<◌, List, length, true, false, Bool, Option, None, Some, eqb, refl, sym, ap, ◌∙◌, subst, ⊎_elim, arith, length-set}
-use Rattle.std.specs.Prelude.{if◌then◌else◌, ◌&&◌, not, nat_le, nat_lt, max, Result, Ok, Err, IsSome}
+use Rattle.std.specs.Prelude.{if◌then◌else◌, ◌&&◌, nat_le, nat_lt, max, Result, Ok, Err, IsSome}
 use Rattle.std.specs.List.{AllByRecursion}
 use Rattle.std.proofs.Math.Nat.{le-max_left}
 use Rattle.std.proofs.lemmas.Bool.{ltb-true}
@@ -30,7 +30,9 @@ use Rattle.snap_call.specs.Records.{active_at, charge_of, has_children, has_key,
 use Rattle.snap_call.specs.Forms.{is_key, is_limit, is_page, is_start}
 use Rattle.snap_call.specs.Reached.{unswept}
 use Rattle.snap_call.specs.State.{ancestors, layers_of, place_of, shown_layers}
-use Rattle.snap_call.specs.Step.{are_formed, IsAllowed, IsCovered, IsOpenSlot, has_named, in_namespace, lease_add, lease_add_record, lease_create, lease_drop, lease_drop_at, lease_release, set_limit, sweep, sweep_at, ask, charge, charge_to, commit_as, committed as committed_state, discard, greater, one, prepare_at, prepared as prepared_state, refused, session, step, trim, place_for, slot_for, unless_refused, mounts, view_at, prepare_view, remove_record, remove, update_record, update, walk_infos, new_record, at_record}
+use Rattle.snap_call.specs.Step.{are_formed, IsAllowed, IsCovered, IsOpenSlot, has_named, in_namespace, sweep, sweep_at, ask, charge, commit_as, committed as committed_state, discard, greater, one, prepared as prepared_state, refused, step, trim, place_for, slot_for, unless_refused, mounts, prepare_view, update_record, new_record, at_record}
+use Rattle.snap_call.specs.Steps.{lease_add, lease_create, lease_drop, lease_release, set_limit, session, remove, update, walk_infos}
+use Rattle.snap_call.proofs.Parts.{lease_add_record, lease_drop_at, charge_to, prepare_at, view_at, remove_record}
 use Rattle.snap_call.proofs.Alike.{AreAlike, bare, bare-relabelled, alike-active_at, alike-active_at_None, alike-layers}
 use Rattle.snap_call.proofs.Chains.{chain, Every, OnParent, every, on_parent, IsOther, Keeps, Keeps-after, Keeps-recharged, Keeps-with_record, Keeps-without_slot, chain-found, keeps-ancestors, keeps-without_key, on_other}
 use Rattle.snap_call.proofs.Keeping.{covers-Covers}
@@ -315,7 +317,7 @@ left_lease_create s hands namespace lease until agree =
 
 left_lease_add_record : (s : State) (hands : List (Option HandValue)) (namespace lease name : Bytes) (r : Record) → AgreeAll hands s.records → Left (λ reply. hands) (lease_add_record s namespace lease name r)
 left_lease_add_record s hands namespace lease name r agree =
-    cases_if (Left (λ reply. hands)) (not (is_committed r.content)) _ _ (λ other. agree) (λ is. cases_if (Left (λ reply. hands)) _ _ _ (λ none. agree) (λ there. agree))
+    cases_if (Left (λ reply. hands)) (is_committed r.content) _ _ (λ is. cases_if (Left (λ reply. hands)) _ _ _ (λ there. agree) (λ none. agree)) (λ other. agree)
 
 left_lease_add : (s : State) (hands : List (Option HandValue)) (namespace lease name : Bytes) → AgreeAll hands s.records → Left (λ reply. hands) (lease_add s namespace lease name)
 left_lease_add s hands namespace lease name agree =
@@ -324,8 +326,9 @@ left_lease_add s hands namespace lease name agree =
 
 left_lease_drop_at : (s : State) (hands : List (Option HandValue)) (namespace lease name : Bytes) → AgreeAll hands s.records → Left (λ reply. hands) (lease_drop_at s namespace lease name)
 left_lease_drop_at s hands namespace lease name agree =
-    cases_if (Left (λ reply. hands)) (not (has_lease s.leases namespace lease)) _ _ (λ none. agree)
-    (λ there. cases_if (Left (λ reply. hands)) (not (lease_names s.leases namespace lease name)) _ _ (λ other. agree) (λ named. agree))
+    cases_if (Left (λ reply. hands)) (has_lease s.leases namespace lease) _ _
+    (λ there. cases_if (Left (λ reply. hands)) (lease_names s.leases namespace lease name) _ _ (λ named. agree) (λ other. agree))
+    (λ none. agree)
 
 left_lease_drop : (s : State) (hands : List (Option HandValue)) (namespace lease name : Bytes) → AgreeAll hands s.records → Left (λ reply. hands) (lease_drop s namespace lease name)
 left_lease_drop s hands namespace lease name agree =

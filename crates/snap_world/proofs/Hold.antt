@@ -11,7 +11,8 @@ use Rattle.snap_call.specs.declared.reply.Reply.{Reply}
 use Rattle.snap_call.specs.declared.reply.Reply.TheVariants.{Prepared}
 use Rattle.snap_call.specs.declared.state.State.{State}
 use Rattle.snap_call.specs.Records.{active_at, lowest_free}
-use Rattle.snap_call.specs.Step.{step, place_for, prepare_at, prepared, slot_for, unless_refused}
+use Rattle.snap_call.specs.Step.{step, place_for, prepared, slot_for, unless_refused}
+use Rattle.snap_call.proofs.Parts.{prepare_at}
 use Rattle.snap_call.proofs.Lowest.{lowest_free-Some}
 use Rattle.snap_call.proofs.Places.{slot_for-Ok}
 use Rattle.snap_world.specs.World.{HandValue, WorldValue, Fits, IsHandOf, AgreesAt, hand_at}

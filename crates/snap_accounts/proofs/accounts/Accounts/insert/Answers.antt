@@ -9,7 +9,7 @@ use Rattle.snap_call.specs.Good.{Good}
 use Rattle.snap_call.specs.Records.{charge_of, active_at, has_key, open_count, with_record}
 use Rattle.snap_call.specs.State.{limit_at, is_base, is_too_deep}
 use Rattle.snap_call.specs.Step.{one, new_record}
-use Rattle.snap_accounts.proofs.Accounting.{accounts_same}
+use Rattle.snap_accounts.proofs.Accounting.{accounts_same, few-covered}
 use Rattle.snap_accounts.proofs.Prepared.{accounts_prepared, charge_in-free, open-most, open_count-prepared}
 use Rattle.snap_accounts.proofs.accounts.Accounts.insert.Goals as goal
 
@@ -23,6 +23,20 @@ invariant_of-self g c =
     accounts_same s (record s { records = c.insert.new.self }) c.self.inside.totals c.self.inside.slots c.self.inside.opened c.self.invariant
     (subst (λ (l : List Record). Good (record s { records = l })) (sym same) c.self.invariant.good)
     refl same
+
+pub plus-after-requires-clause-blocks : goal.plus-after-requires-clause-blocks
+plus-after-requires-clause-blocks g c =
+    let place = c.args.vacancy.place in
+    let s : State = c.args.self.now in
+    let room = few-covered (limit_at place s.namespaces) (plus (charge_of place s.records) one) c.total.ensures.limit c.requires.vacant.fits in
+    omega (arith, room.0, ap (λ (u : Usage). u.blocks) c.total.ensures.total, ap (λ (u : Usage). u.blocks) c.one.ensures)
+
+pub plus-after-requires-clause-inodes : goal.plus-after-requires-clause-inodes
+plus-after-requires-clause-inodes g c =
+    let place = c.args.vacancy.place in
+    let s : State = c.args.self.now in
+    let room = few-covered (limit_at place s.namespaces) (plus (charge_of place s.records) one) c.total.ensures.limit c.requires.vacant.fits in
+    omega (arith, room.1, ap (λ (u : Usage). u.inodes) c.total.ensures.total, ap (λ (u : Usage). u.inodes) c.one.ensures)
 
 pub overflow_add-self-3 : goal.overflow_add-self-3
 overflow_add-self-3 g c =
@@ -47,7 +61,7 @@ invariant_of-self-2 g c =
     let made : c.args.added ≡ new_record s place key parent labels (Active slot one) = c.requires.added ∙ ap (λ (u : State). new_record u place key parent labels (Active slot one)) (sym view) in
     let is : c.insert.new.self ≡ with_record (new_record s place key parent labels (Active slot one)) s.records = c.in_default.ensures.ok ∙ ap (λ (r : Record). with_record r s.records) made in
     let total : c.total.result ≡ charge_of place s.records = c.total.ensures.total ∙ ap (λ (u : State). charge_of place u.records) (sym view) in
-    let after : c.sum-after.result ≡ plus (charge_of place s.records) one = c.sum-after.ensures ∙ (λ i. plus (total i) (c.one.ensures i)) in
+    let after : c.plus-after.result ≡ plus (charge_of place s.records) one = c.plus-after.ensures ∙ (λ i. plus (total i) (c.one.ensures i)) in
     accounts_prepared s c.self.inside.totals c.set.new.self c.self.inside.slots c.issue.new.self c.self.inside.opened place slot key parent labels c.insert.new.self c.self.invariant
     (subst (λ (u : State). place < length u.namespaces) (sym view) c.requires.vacant.site.inside)
     (ap (λ (u : State). has_key place key u.records) view ∙ c.requires.vacant.site.new)

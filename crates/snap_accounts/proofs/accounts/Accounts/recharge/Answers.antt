@@ -1,4 +1,5 @@
-use Rattle.std.proofs.Common.{◌≡◌, ℕ, List, set, Some, true, refl, sym, ap, ◌∙◌, subst, ◌+◌}
+use Rattle.std.proofs.Common.{◌≡◌, ℕ, ◌<◌, List, set, Some, true, refl, sym, ap, ◌∙◌, subst, ◌+◌}
+use Rattle.std.specs.Prelude.{◌^◌}
 use Rattle.snap_usage.specs.declared.usage.Usage.{Usage}
 use Rattle.snap_usage.specs.Counted.{Covers}
 use Rattle.snap_ledger.specs.States.{minus, plus}
@@ -14,8 +15,24 @@ use Rattle.snap_call.proofs.Slots.{charge_at-issued}
 use Rattle.snap_call.proofs.Counts.{open_count-recharged}
 use Rattle.snap_call.proofs.Keeping.{covers-Covers, good_recharged}
 use Rattle.snap_accounts.specs.Totals.{place_if}
-use Rattle.snap_accounts.proofs.Accounting.{accounts_recharged}
+use Rattle.snap_accounts.proofs.Accounting.{accounts_recharged, few-covered}
 use Rattle.snap_accounts.proofs.accounts.Accounts.recharge.Goals as goal
+
+pub plus-after-requires-clause-blocks : goal.plus-after-requires-clause-blocks
+plus-after-requires-clause-blocks g c =
+    let place = c.args.place in
+    let s : State = c.args.self.now in
+    let held : Usage = c.args.share.now.usage in
+    let rest : c.difference-rest.result ≡ minus (charge_of place s.records) held = c.difference-rest.ensures ∙ (λ i. minus (c.total.ensures.total i) (c.held.ensures.held i)) in
+    subst (λ (u : Usage). u.blocks + c.args.to.blocks < 2 ^ 64) (sym rest) (few-covered (limit_at place s.namespaces) (plus (minus (charge_of place s.records) held) c.args.to) c.total.ensures.limit c.requires.fits).0
+
+pub plus-after-requires-clause-inodes : goal.plus-after-requires-clause-inodes
+plus-after-requires-clause-inodes g c =
+    let place = c.args.place in
+    let s : State = c.args.self.now in
+    let held : Usage = c.args.share.now.usage in
+    let rest : c.difference-rest.result ≡ minus (charge_of place s.records) held = c.difference-rest.ensures ∙ (λ i. minus (c.total.ensures.total i) (c.held.ensures.held i)) in
+    subst (λ (u : Usage). u.inodes + c.args.to.inodes < 2 ^ 64) (sym rest) (few-covered (limit_at place s.namespaces) (plus (minus (charge_of place s.records) held) c.args.to) c.total.ensures.limit c.requires.fits).1
 
 pub invariant_of-self : goal.invariant_of-self
 invariant_of-self g c =
@@ -29,7 +46,7 @@ invariant_of-self g c =
     let place : c.args.place ≡ r.namespace = c.requires.charged.namespace ∙ (ap (λ (u : State). place_if (active_at slot u.records)) (sym c.self.view_is) ∙ ap place_if e) in
     let total : c.total.result ≡ charge_of r.namespace s.records = c.total.ensures.total ∙ (λ i. charge_of (place i) (sym c.self.view_is i).records) in
     let rest : c.difference-rest.result ≡ minus (charge_of r.namespace s.records) (usage_of r.content) = c.difference-rest.ensures ∙ (λ i. minus (total i) ((c.held.ensures.held ∙ sym held) i)) in
-    let after : c.sum-after.result ≡ charge_with r to s.records = c.sum-after.ensures ∙ ap (λ (u : Usage). plus u to) rest in
+    let after : c.plus-after.result ≡ charge_with r to s.records = c.plus-after.ensures ∙ ap (λ (u : Usage). plus u to) rest in
     let is : c.recharge.new.self ≡ recharged slot to s.records = c.recharge.ensures ∙ ap (λ (k : ℕ). recharged k to s.records) c.slot-slot.ensures in
     let fits : fits_in s r.namespace (usage_of r.content) to ≡ true = (λ i. fits_in (c.self.view_is i) (sym place i) (held i) to) ∙ c.requires.fits in
     let room : Covers (limit_at r.namespace s.namespaces) (charge_with r to s.records) = covers-Covers (limit_at r.namespace s.namespaces) (charge_with r to s.records) fits in

@@ -16,5 +16,5 @@ pub returns-in-Ok-None-clause-totals : goal.returns-in-Ok-None-clause-totals
 returns-in-Ok-None-clause-totals g c =
     let b = c.into_book-book.result.1 in
     let found = rw c.in-Ok-None.field-0-is at c.in-Ok-None.ensures.cause in
-    let settled : IsSettled b.state = record { idle = found.0; totals = charged_counts b.state c.of.ensures.kept.good found.0 } in
+    let settled : IsSettled b.state = record { idle = found.0; totals = charged_counts b.state (c.close_cause.ensures.kept c.into_book-book.ensures.idle).good found.0 } in
     subst (λ (x : BookValue). IsSettled x.state) (sym c.of.ensures.closed) settled

@@ -9,7 +9,7 @@ use Rattle.snap_record.specs.declared.record.Content.{Content}
 use Rattle.snap_record.specs.declared.record.Content.TheVariants.{Committed}
 use Rattle.snap_record.specs.declared.record.Record.{Record}
 use Rattle.snap_call.specs.declared.refusal.Refusal.{Refusal}
-use Rattle.snap_call.specs.State.{ancestors, chain_from, is_too_deep, layer_of, layers_of}
+use Rattle.snap_call.specs.State.{ancestors, chain_from, is_too_deep, layer_of, layers_of, most_ancestors}
 use Rattle.snap_book.specs.Slot.{found_of}
 use Rattle.snap_world.specs.World.{Fits, WorldValue}
 use Rattle.snap_world.specs.Stacks.{peeked_by}
@@ -35,7 +35,7 @@ chain-requires g c =
     let records = c.records-records.ensures.records ∙ ap (λ (x : WorldValue). x.state.records) c.self.view_is in
     subst (λ (rs : List Record). is_too_deep f.namespace c.as_str.result.now rs ≡ false) (sym records)
     (subst (λ (p : Bytes). is_too_deep f.namespace p w.state.records ≡ false) (sym c.as_str.ensures)
-    (not_deep (chain_from 64 w.state.records f.namespace f.parent) (chained w fits c.args.namespace.now c.args.key.now f found)))
+    (not_deep (chain_from most_ancestors w.state.records f.namespace f.parent) (chained w fits c.args.namespace.now c.args.key.now f found)))
 
 pub returns-in_ok-chain-in-Committed : goal.returns-in_ok-chain-in-Committed
 returns-in_ok-chain-in-Committed g c =
