@@ -1,3 +1,9 @@
 pub mod ServeLaws
 pub mod BatchLaws
+pub mod LineLaws
+pub mod PartLaws
 pub mod CameLaws
+pub mod LeadLaws
+pub mod WholeLaws
+pub mod RestartLaws
+pub mod LoggedLaws

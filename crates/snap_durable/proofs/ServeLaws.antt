@@ -11,7 +11,7 @@ use Rattle.snap_lines.specs.Transcripts.{Transcript, prepended, transcript_from,
 use Rattle.snap_durable.specs.Serves.{place_unlimited, told_whole, Serves}
 use Rattle.snap_durable.specs.Served.{AreAnswered}
 
-whole_is : {A : Type 0} (t : Transcript A) (w : A) → t.fault ≡ None → t.value ≡ w → t ≡ told_whole t.text w
+pub whole_is : {A : Type 0} (t : Transcript A) (w : A) → t.fault ≡ None → t.value ≡ w → t ≡ told_whole t.text w
 whole_is t w fault value = ap (λ f. record { text = t.text; fault = f; value = t.value }) fault ∙ ap (λ v. told_whole t.text v) value
 
 -- the number of the first line is of no account

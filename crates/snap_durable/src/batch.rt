@@ -1,55 +1,91 @@
-ghost use Rattle.std.specs.Prelude.{◌≡◌, ◌⊎◌, ◌+◌, ◌≤◌, ◌^◌, ◌++◌, ℕ, List, Option, None, length, OnOk, IsTrue};
+ghost use Rattle.std.specs.Prelude.{◌≡◌, ◌⊎◌, ◌+◌, ◌≤◌, ◌^◌, ◌++◌, ℕ, List, length, true, false, IfOk, IfErr, IsTrue};
 ghost use Rattle.sqlite_disk.specs.Disk.{MoreFaults};
+ghost use Rattle.snap_lines.specs.Lines.{lines_of};
 ghost use Rattle.snap_log.specs.Kept.{IsBeforeOrAfter};
 ghost use Rattle.snap_log.specs.Log.{disk_of, text_in, IsHonest, Keeps};
-ghost use Rattle.snap_lines.specs.Transcripts.{transcript, Stops, Tells};
-ghost use Rattle.snap_durable.specs.Ended.{disk_after, IfKept, IfNotKept, IfRefused, IfStopped, IfUnkept};
+ghost use Rattle.snap_durable.specs.Ended.{disk_ended};
+ghost use Rattle.snap_durable.specs.Parts.{lines_to_keep, is_odd, kept_of};
+ghost use Rattle.snap_durable.specs.Served.{AreAnswered, LeavesBatch, disk_kept};
 
+use crate::changes::add_changes;
 use crate::chunk::READS;
 use crate::ended::Ended;
-use snap_lines::{TakeLine, read_lines};
-use snap_log::{AppendFailed, Batch, ChangeTest, Log};
+use snap_lines::{KeepLine, Stop, read_lines};
+use snap_log::{AppendFailed, Lines, Log};
 use sqlite_disk::Disk;
 use std::alloc::Global;
 use std::io::Write;
 
-/// Adds those of a batch's lines that change something to the log, as one, and then carries all its lines out and writes
-/// their answers.
-///
-/// At `Ok` all of them are answered. `Stopped` where their run ended, as by a failed write of an answer. `NotKept`,
-/// `NoLine` and `Unknown` where they were not added: nothing was carried out or written then. A crash at any moment
-/// leaves a log with all of the lines that change something or none, and once an answer was written with all. Two syncs
-/// and three writes of the log, where a line changes something. The memory is that of `read_lines`.
-pub fn serve_batch<T: TakeLine, C: ChangeTest, W: Write, D: Disk>(
+// A log that was asked to keep lines, and whether it did.
+#[derive(Drop)]
+pub(crate) struct Kept<D: Disk> {
+    pub(crate) log: Log<D>,
+    pub(crate) is_kept: bool,
+}
+
+// Adds those of the lines that change something to the log, as one, where that can be.
+fn keep<T: KeepLine, D: Disk>(
     alloc: Global,
     taker: &mut T,
-    batch: &Batch<C>,
+    whole: &[u8],
+    log: Log<D>,
+) -> Result<Kept<D>, Ended<D>>
+    ensures kept { IfOk result (λ kept. IsHonest kept.log → Keeps kept.log (text_in log ++ kept_of (T.changes taker.old) (record { whole = whole.now; is_kept = kept.is_kept }))) }
+    ensures refused { IfOk result (λ kept. kept.is_kept ≡ false → IsHonest kept.log
+        → MoreFaults (D.Disk.faults (disk_of log)) (D.Disk.faults (disk_of kept.log)) ⊎ (is_odd (T.changes taker.old) (lines_of whole.now) ≡ true)
+        ⊎ (2 ^ 64 ≤ length (text_in log) + length (lines_to_keep (T.changes taker.old) (lines_of whole.now)) + 1)) }
+    ensures crash { IfErr result (λ ended. IsTrue (D.Disk.is_clean (disk_ended ended)) → (c : List ℕ) → D.Disk.may_leave (disk_ended ended) c
+        → IsBeforeOrAfter (text_in log) (lines_to_keep (T.changes taker.old) (lines_of whole.now)) c) }
+    ensures same { taker.new ≡ taker.old }
+    ensures clean { IsTrue (D.Disk.is_clean (disk_kept result)) → IsHonest log }
+{
+    let mut changes = Lines::new(alloc);
+    let are_there = match add_changes(alloc, taker, whole, &mut changes) {
+        Ok(are_there) => are_there,
+        Err(shortage) => return Err(Ended::Stopped(log, Stop::OutOfMemory(shortage))),
+    };
+    if !are_there {
+        return Ok(Kept {
+            log,
+            is_kept: false,
+        });
+    }
+    match log.append(changes.as_slice()) {
+        Ok(log) => Ok(Kept { log, is_kept: true }),
+        Err(AppendFailed::NotKept(log, _)) => Ok(Kept {
+            log,
+            is_kept: false,
+        }),
+        Err(AppendFailed::Unknown(disk, error)) => Err(Ended::Unknown(disk, error)),
+    }
+}
+
+// Adds those of the lines that change something to the log, and then carries all of them out and writes their answers.
+// Where the log can't keep them, each of those is refused.
+pub(crate) fn serve_batch<T: KeepLine, W: Write, D: Disk>(
+    alloc: Global,
+    taker: &mut T,
+    whole: &[u8],
     log: Log<D>,
     output: &mut W,
-) -> Result<Log<D>, Ended<D>>
-    ensures answered { OnOk result (Tells (transcript None T.effect taker.old batch.now.whole) None (W.contents output.old) (W.contents output.new)) }
-    ensures value { OnOk result ((transcript None T.effect taker.old batch.now.whole).value ≡ taker.new) }
-    ensures kept { IfKept result (λ log_new. IsHonest log_new → Keeps log_new (text_in log ++ batch.now.changes)) }
-    ensures stopped { IfStopped result (λ stop. (left : Option (List ℕ)) × Stops None T.effect taker.old batch.now.whole left stop (W.contents output.old) (W.contents output.new)) }
-    ensures not_kept { IfNotKept result (λ log_new. IsHonest log_new → Keeps log_new (text_in log)) }
-    ensures unanswered { IfUnkept result ((taker.new ≡ taker.old) × (output.new ≡ output.old)) }
-    // Whatever the call answers, a crash leaves all of the lines that change something or none.
-    ensures crash { IsTrue (D.Disk.is_clean (disk_after result)) → (c : List ℕ) → D.Disk.may_leave (disk_after result) c → IsBeforeOrAfter (text_in log) batch.now.changes c }
-    ensures faults { IfRefused result (IsTrue (D.Disk.is_clean (disk_after result))
-        → MoreFaults (D.Disk.faults (disk_of log)) (D.Disk.faults (disk_after result)) ⊎ (2 ^ 64 ≤ length (text_in log) + length batch.now.changes + 1)) }
-    ensures clean { IsTrue (D.Disk.is_clean (disk_after result)) → IsHonest log }
+) -> Result<Kept<D>, Ended<D>>
+    ensures answered { IfOk result (λ kept. AreAnswered T.TakeLine.effect (T.keeping kept.is_kept taker.old) whole.now taker.new (W.contents output.old) (W.contents output.new)) }
+    ensures kept { IfOk result (λ kept. IsHonest kept.log → Keeps kept.log (text_in log ++ kept_of (T.changes taker.old) (record { whole = whole.now; is_kept = kept.is_kept }))) }
+    ensures refused { IfOk result (λ kept. kept.is_kept ≡ false → IsHonest kept.log
+        → MoreFaults (D.Disk.faults (disk_of log)) (D.Disk.faults (disk_of kept.log)) ⊎ (is_odd (T.changes taker.old) (lines_of whole.now) ≡ true)
+        ⊎ (2 ^ 64 ≤ length (text_in log) + length (lines_to_keep (T.changes taker.old) (lines_of whole.now)) + 1)) }
+    ensures crash { IfErr result (λ ended. IsTrue (D.Disk.is_clean (disk_ended ended)) → (c : List ℕ) → D.Disk.may_leave (disk_ended ended) c
+        → LeavesBatch T.TakeLine.effect T.changes T.keeping taker.old (text_in log) whole.now c (W.contents output.old) (W.contents output.new)) }
+    ensures clean { IsTrue (D.Disk.is_clean (disk_kept result)) → IsHonest log }
 {
-    if batch.is_odd() {
-        return Err(Ended::NoLine(log));
-    }
-    let log = match log.append(batch.changes().as_slice()) {
-        Ok(log) => log,
-        Err(AppendFailed::NotKept(log, error)) => return Err(Ended::NotKept(log, error)),
-        Err(AppendFailed::Unknown(disk, error)) => return Err(Ended::Unknown(disk, error)),
+    let Kept { log, is_kept } = match keep(alloc, taker, whole, log) {
+        Ok(kept) => kept,
+        Err(ended) => return Err(ended),
     };
-    let mut lines = batch.whole();
+    taker.set_keeping(is_kept);
+    let mut lines = whole;
     match read_lines(alloc, taker, &mut lines, output, None, READS) {
-        Ok(()) => Ok(log),
+        Ok(()) => Ok(Kept { log, is_kept }),
         Err(stop) => Err(Ended::Stopped(log, stop)),
     }
 }

@@ -1,10 +1,14 @@
 // How an input is read.
 ghost use Rattle.std.specs.Prelude.{◌<◌, length, IfOk};
 
+use snap_script::MAX_LINE_BYTES;
 use std::alloc::{AllocError, Global};
 
 // The most reads, more than there will be.
 pub(crate) const READS: u64 = u64::MAX;
+
+// Of a line so many bytes are kept: one more than a line has, by which a longer one is known.
+pub(crate) const LIMIT: usize = MAX_LINE_BYTES + 1;
 
 // A read takes at most so many bytes.
 const CHUNK: usize = 65_536;

@@ -2,12 +2,14 @@
 #![tactic(auto)]
 
 mod batch;
+mod changes;
 mod chunk;
 mod ended;
+mod logged;
 mod restart;
 mod serve;
 
-pub use batch::serve_batch;
 pub use ended::Ended;
+pub use logged::{Unserved, serve_log};
 pub use restart::{ReplayError, replay};
 pub use serve::serve_lines;

@@ -1,13 +1,13 @@
 ghost use Rattle.std.specs.Prelude.{◌≡◌, ◌+◌, ◌<◌, ◌≤◌, ◌++◌, ℕ, List, None, length, take, OnOk};
 ghost use Rattle.snap_log.specs.Batches.{batched, emptied};
 ghost use Rattle.snap_log.specs.Log.{disk_of, text_in, IsHonest};
-ghost use Rattle.snap_durable.specs.Served.{AreAnswered, Carried, IsReplayed, changes_none};
+ghost use Rattle.snap_durable.specs.Served.{AreAnswered, Carried, IsReplayed};
 
 use crate::chunk::{READS, chunk};
 use snap_lines::{Stop, TakeLine, read_lines};
-use snap_log::{Batch, ChangeTest, Log};
+use snap_log::{Batch, Log};
 use sqlite_disk::Disk;
-use std::alloc::{AllocError, Global};
+use std::alloc::Global;
 use std::io;
 
 /// Why a log was not carried out.
@@ -41,27 +41,15 @@ impl From<io::Error> for ReplayError {
     }
 }
 
-// A log's lines are kept already.
-#[derive(Drop)]
-struct NoChange;
-
-impl ChangeTest for NoChange {
-    ghost changes = { changes_none };
-
-    fn is_change(&mut self, _line: &[u8]) -> Result<bool, AllocError> {
-        Ok(false)
-    }
-}
-
 // Carries out the lines that end in these bytes.
 fn take_chunk<T: TakeLine>(
     alloc: Global,
     taker: &mut T,
-    batch: &mut Batch<NoChange>,
+    batch: &mut Batch,
     bytes: &[u8],
 ) -> Result<(), Stop>
-    ensures answered { OnOk result (AreAnswered T.effect taker.old (batched changes_none batch.old bytes.now).whole taker.new None None) }
-    ensures batch { OnOk result (batch.new ≡ emptied (batched changes_none batch.old bytes.now)) }
+    ensures answered { OnOk result (AreAnswered T.effect taker.old (batched batch.old bytes.now).whole taker.new None None) }
+    ensures batch { OnOk result (batch.new ≡ emptied (batched batch.old bytes.now)) }
 {
     batch.take(bytes)?;
     let mut lines = batch.whole();
@@ -74,14 +62,14 @@ fn take_chunk<T: TakeLine>(
 fn replay_next<T: TakeLine, D: Disk>(
     alloc: Global,
     taker: &mut T,
-    batch: &mut Batch<NoChange>,
+    batch: &mut Batch,
     log: &mut Log<D>,
     at: usize,
     buf: &mut [u8],
 ) -> Result<(), ReplayError>
     requires { 0 < length buf.old }
-    ensures answered { OnOk result (AreAnswered T.effect taker.old (batched changes_none batch.old buf.new).whole taker.new None None) }
-    ensures batch { OnOk result (batch.new ≡ emptied (batched changes_none batch.old buf.new)) }
+    ensures answered { OnOk result (AreAnswered T.effect taker.old (batched batch.old buf.new).whole taker.new None None) }
+    ensures batch { OnOk result (batch.new ≡ emptied (batched batch.old buf.new)) }
     ensures read { (n : ℕ) → n ≡ length buf.old → OnOk result (IsHonest log.new → at + n ≤ length (text_in log.old) → take (at + n) (text_in log.old) ≡ take at (text_in log.old) ++ buf.new) }
     ensures text { text_in log.new ≡ text_in log.old }
     ensures crash { (c : List ℕ) → D.Disk.may_leave (disk_of log.new) c → D.Disk.may_leave (disk_of log.old) c }
@@ -107,7 +95,7 @@ pub fn replay<T: TakeLine, D: Disk>(
     ensures crash { (c : List ℕ) → D.Disk.may_leave (disk_of log.new) c → D.Disk.may_leave (disk_of log.old) c }
     ensures clean { IsHonest log.new → IsHonest log.old }
 {
-    let mut batch = Batch::new(alloc, NoChange, usize::MAX);
+    let mut batch = Batch::new(alloc, usize::MAX);
     let mut buffer = match chunk(alloc) {
         Ok(buffer) => buffer,
         Err(refused) => return Err(ReplayError::Stopped(refused.into())),

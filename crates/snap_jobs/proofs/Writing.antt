@@ -18,8 +18,6 @@ use Rattle.snap_writers.specs.declared.job.Ended.{Ended}
 use Rattle.snap_writers.specs.Starting.{AreBack, IsFault}
 use Rattle.snap_writers.proofs.Reporting.{back_weaker}
 use Rattle.snap_script.specs.declared.fault.Fault.{Fault}
-use Rattle.snap_script.specs.declared.fault.Shortage.{Shortage}
-use Rattle.snap_script.specs.declared.fault.Shortage.TheVariants.{Allocator}
 use Rattle.snap_script.specs.declared.fault.Fault.TheVariants.{TooLong}
 use Rattle.snap_lines.specs.Effects.{Effect}
 use Rattle.snap_lines.specs.Lines.{feeds, lines_of, without_feed}
@@ -124,7 +122,7 @@ lines_stopped options None left stop before after h = tt
 lines_stopped options (Some bytes) left stop before after h = stopped_at options bytes left stop before after h
 
 -- want of memory has one value
-only_memory : (want : NoMemory) → ◌≡◌ {A = Shortage} (Allocator want) (Allocator no_memory)
+only_memory : (want : NoMemory) → ◌≡◌ {A = NoMemory} want no_memory
 only_memory want = refl
 
 -- a store that can't be closed for this cause ends the run of the jobs so

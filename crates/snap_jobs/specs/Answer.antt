@@ -18,7 +18,6 @@ use Rattle.snap_store.specs.declared.cause.Cause.TheVariants as causes
 use Rattle.snap_script.specs.Answers.{answer_line}
 use Rattle.snap_script.specs.declared.answer.Answer.{Answer}
 use Rattle.snap_script.specs.declared.answer.Answer.TheVariants.{Jobs}
-use Rattle.snap_script.specs.declared.fault.Shortage.TheVariants.{Allocator}
 use Rattle.snap_writers.specs.declared.job.Ended.{Ended}
 use Rattle.snap_writers.specs.declared.job.Ended.TheVariants.{Committed, Discarded}
 use Rattle.snap_writers.specs.declared.job.Job.{Job}
@@ -96,7 +95,7 @@ HasLacked options read lacking all before after = (0 < lacking) × (all ≡ job_
 
 -- how a run of jobs ends whose store can't be closed for the cause
 abbrev pub unclosed_stop : Cause → JobsStop
-unclosed_stop (causes.OutOfMemory want) = Lines (OutOfMemory (Allocator want))
+unclosed_stop (causes.OutOfMemory want) = Lines (OutOfMemory want)
 unclosed_stop (causes.StillOut snapshots) = NotClosed
 unclosed_stop causes.SessionsMissing = NotClosed
 unclosed_stop (causes.TapeMismatch mismatch) = NotClosed
@@ -107,7 +106,7 @@ IsUnclosed workers r jobs stop = (sessions : List SessionValue) × (ends : List 
 
 -- a run of the jobs has no report: an allocator refused memory, or the store can't be closed
 abbrev pub HasNoReport : ℕ → Round → List Job → JobsStop → Type 0
-HasNoReport workers r jobs (Lines (OutOfMemory want)) = want ≡ Allocator no_memory
+HasNoReport workers r jobs (Lines (OutOfMemory want)) = want ≡ no_memory
 HasNoReport workers r jobs NotClosed = IsUnclosed workers r jobs NotClosed
 HasNoReport workers r jobs stop = ⊥
 

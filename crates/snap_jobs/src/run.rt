@@ -11,7 +11,7 @@ use crate::ends::lacking;
 use crate::reading::{JobLines, Read};
 use crate::stop::JobsStop;
 use snap_lines::{MAX_BYTES, Stop, read_lines, write_bytes};
-use snap_script::{FieldRule, Shortage};
+use snap_script::FieldRule;
 use snap_store::{Cause, NewStore, NotClosed, RoundName, Store};
 use snap_writers::{Gate, Job, Report, RunFault, run_jobs};
 use std::alloc::Global;
@@ -50,9 +50,7 @@ fn stop_of<N: RoundName>(back: &NotClosed<N>) -> JobsStop
     ensures { result ≡ unclosed_stop back.now.cause }
 {
     match back.cause {
-        Cause::OutOfMemory(no_memory) => {
-            JobsStop::Lines(Stop::OutOfMemory(Shortage::Allocator(no_memory)))
-        }
+        Cause::OutOfMemory(no_memory) => { JobsStop::Lines(Stop::OutOfMemory(no_memory)) }
         Cause::StillOut(_) | Cause::SessionsMissing | Cause::TapeMismatch(_) => {
             JobsStop::NotClosed
         }
@@ -76,7 +74,7 @@ fn report_of<N: RoundName + Send + Sync, T: Threads + Wait + Sync>(
         Err(RunFault::GateClosed { .. }) => unreachable!(),
         Err(RunFault::BadWorkers(_)) => unreachable!(),
         Err(RunFault::OutOfMemory(_, no_memory)) => {
-            Err(JobsStop::Lines(Stop::OutOfMemory(Shortage::Allocator(no_memory))))
+            Err(JobsStop::Lines(Stop::OutOfMemory(no_memory)))
         }
         Err(RunFault::NotClosed { ends: _, back }) => Err(stop_of(&back)),
     }

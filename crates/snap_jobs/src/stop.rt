@@ -43,11 +43,10 @@ impl From<Stop> for JobsStop {
 
 impl From<AllocError> for JobsStop {
     ghost use Rattle.std.specs.Prelude.{◌≡◌};
-    ghost use Rattle.snap_script.specs.declared.fault.Shortage.TheVariants.{Allocator};
     ghost use Rattle.snap_lines.specs.declared.stop.Stop.TheVariants.{OutOfMemory};
     ghost use Rattle.snap_jobs.specs.declared.stop.JobsStop.TheVariants.{Lines};
 
-    ghost from_gives = { λ _ e. e ≡ Lines (OutOfMemory (Allocator no_memory)) };
+    ghost from_gives = { λ _ e. e ≡ Lines (OutOfMemory no_memory) };
 
     fn from(refused: AllocError) -> JobsStop {
         JobsStop::Lines(refused.into())

@@ -7,7 +7,7 @@ use Rattle.snap_lines.specs.Effects.{Effects}
 use Rattle.snap_lines.specs.Lines.{lines_of, feeds}
 use Rattle.snap_lines.specs.Transcripts.{Place, Transcript, transcript, transcript_from, first_lines, prepended, effect_at, goes_on, place_after, start, Tells, TellsPart, Stops}
 use Rattle.snap_lines.specs.Runs.{Run, nothing, within, transcript_on, Goes, StopsIn, StopsAtEnd}
-use Rattle.snap_script.specs.declared.fault.Shortage.{Shortage}
+use Rattle.snap_path.specs.declared.memory.NoMemory.{NoMemory}
 use Rattle.snap_lines.specs.declared.stop.LineFault.{LineFault}
 use Rattle.snap_lines.specs.declared.stop.Stop.{Stop}
 use Rattle.snap_lines.specs.declared.stop.Stop.TheVariants.{Line, InputFailed, OutputFailed, OutOfMemory}
@@ -136,7 +136,7 @@ reading_stopped_at_end m effect v None b c d x y z s stop r h e t = tt
 reading_stopped_at_end m effect v (Some xs) b c d x y z s stop r h e t = stopped_at_end m effect v xs b c d x y z s stop r h e t
 
 -- nothing was read
-pub reading_not_begun : {A : Type 0} (m : Option ℕ) (effect : Effects A) (v : A) (want : Shortage) (a d x : Option (List ℕ)) → IfSome a (λ bytes. Stops m effect v bytes d (OutOfMemory want) x x)
+pub reading_not_begun : {A : Type 0} (m : Option ℕ) (effect : Effects A) (v : A) (want : NoMemory) (a d x : Option (List ℕ)) → IfSome a (λ bytes. Stops m effect v bytes d (OutOfMemory want) x x)
 reading_not_begun m effect v want None d x = tt
 reading_not_begun m effect v want (Some xs) d x = lines_first m effect v xs [] xs (within (nothing m) v) x x refl (goes_none effect (within (nothing m) v) x)
 

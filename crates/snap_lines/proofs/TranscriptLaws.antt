@@ -9,7 +9,7 @@ use Rattle.std.specs.Io.KnownBytes.{Appends, Keeps}
 use mir.Val.{bool_byte}
 use Rattle.snap_script.specs.declared.fault.Fault.{Fault}
 use Rattle.snap_script.specs.declared.fault.Fault.TheVariants.{TooLong}
-use Rattle.snap_script.specs.declared.fault.Shortage.{Shortage}
+use Rattle.snap_path.specs.declared.memory.NoMemory.{NoMemory}
 use Rattle.snap_lines.proofs.KnownLaws.{Appends-trans, Appends-kept, Appends-nil}
 use Rattle.snap_lines.proofs.LineLaws.{line_split, line_last, line_begins, Begins, begins_both, feed_ended, feed_open, feed_after, feed_long, open_more}
 use Rattle.snap_lines.specs.Effects.{Effect, Effects}
@@ -296,7 +296,7 @@ cut_goes effect r b x e o none long = record {
 }
 
 -- memory was refused before any of the bytes was taken
-pub stops_before : {A : Type 0} (effect : Effects A) (r : Run A) (bytes : List ℕ) (want : Shortage) (x y : Option (List ℕ)) → y ≡ x → StopsIn effect r bytes (OutOfMemory want) x y
+pub stops_before : {A : Type 0} (effect : Effects A) (r : Run A) (bytes : List ℕ) (want : NoMemory) (x y : Option (List ℕ)) → y ≡ x → StopsIn effect r bytes (OutOfMemory want) x y
 stops_before effect r bytes want x y e = record { part = []; more = bytes; place = r; is = refl; goes = subst (λ z. Goes effect r [] r x z) (sym e) (goes_none effect r x) }
 
 -- a line feed, where its line was not taken

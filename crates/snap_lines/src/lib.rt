@@ -6,11 +6,13 @@
 //! which an impl of `TakeLine` says.
 #![tactic(auto)]
 
+mod keep;
 mod read;
 mod reader;
 mod stop;
 mod take;
 
+pub use keep::KeepLine;
 pub use read::{MAX_BYTES, read_lines};
 pub use reader::write_bytes;
 pub use stop::{LineFault, Stop};

@@ -1,7 +1,7 @@
 // Where a run stands within an input, and the step of one line.
 ghost use Rattle.std.specs.Prelude.{None, ◌≡◌, ◌<◌, [], ◌∷◌, length, false, Ok, Err, OnOk, IfOk, IfErr};
 ghost use Rattle.std.specs.Io.KnownBytes.{Appends};
-ghost use Rattle.snap_script.specs.declared.fault.Shortage.{Shortage};
+ghost use Rattle.snap_path.specs.declared.memory.NoMemory.{NoMemory};
 ghost use Rattle.snap_lines.specs.Effects.{effect_with, text_bytes};
 ghost use Rattle.snap_lines.specs.Transcripts.{Tells, next_line, passes, left_after};
 ghost use Rattle.snap_lines.specs.Runs.{nothing, within, transcript_on, line_in, TakesLine, Goes, Refuses, Breaks, LeavesLine, StopsIn, StopsAtEnd};
@@ -53,7 +53,7 @@ fn text_of<T: TakeLine>(
 ) -> Result<Option<String>, Stop>
     ensures ok { IfOk result (λ text. T.effect taker.old line.now ≡ Ok (effect_with taker.new text)) }
     ensures err { IfErr result (λ stop. Refuses (T.effect taker.old line.now) lines stop) }
-    ensures memory { (want : Shortage) → result ≡ Err (Stop.OutOfMemory want) → T.wanting taker.new }
+    ensures memory { (want : NoMemory) → result ≡ Err (Stop.OutOfMemory want) → T.wanting taker.new }
 {
     match taker.take_line(alloc, line) {
         Ok(text) => Ok(text),
@@ -142,7 +142,7 @@ impl Reader {
             (within self.new taker.new) (W.contents output.old) (W.contents output.new)) }
         ensures err { IfErr result (λ stop. LeavesLine T.effect (within self.old taker.old) (line_in self.old.pending ended) stop
             (W.contents output.old) (W.contents output.new)) }
-        ensures memory { (want : Shortage) → result ≡ Err (Stop.OutOfMemory want) → T.wanting taker.new }
+        ensures memory { (want : NoMemory) → result ≡ Err (Stop.OutOfMemory want) → T.wanting taker.new }
     {
         let line = self.pending.as_slice();
         let len = line.len() + usize::from(ended);

@@ -2,7 +2,8 @@ ghost use Rattle.std.specs.Prelude.{◌≡◌, Some};
 ghost use Rattle.snap_path.specs.Memory.{no_memory};
 ghost use Rattle.snap_lines.specs.Words.{fault_status, status_of};
 
-use snap_script::{Fault, Shortage};
+use snap_path::NoMemory;
+use snap_script::Fault;
 use std::alloc::{AllocError, AllocFailed};
 use std::fmt;
 
@@ -23,30 +24,28 @@ pub enum Stop {
     /// A write failed.
     OutputFailed,
     /// Memory was refused.
-    OutOfMemory(Shortage),
+    OutOfMemory(NoMemory),
 }
 
 impl From<AllocError> for Stop {
     ghost use Rattle.std.specs.Prelude.{◌≡◌};
-    ghost use Rattle.snap_script.specs.declared.fault.Shortage.TheVariants.{Allocator};
     ghost use Rattle.snap_lines.specs.declared.stop.Stop.TheVariants.{OutOfMemory};
 
-    ghost from_gives = { λ _ e. e ≡ OutOfMemory (Allocator no_memory) };
+    ghost from_gives = { λ _ e. e ≡ OutOfMemory no_memory };
 
     fn from(refused: AllocError) -> Stop {
-        Stop::OutOfMemory(Shortage::Allocator(refused.into()))
+        Stop::OutOfMemory(refused.into())
     }
 }
 
 impl<T: Drop> From<AllocFailed<T>> for Stop {
     ghost use Rattle.std.specs.Prelude.{◌≡◌};
-    ghost use Rattle.snap_script.specs.declared.fault.Shortage.TheVariants.{Allocator};
     ghost use Rattle.snap_lines.specs.declared.stop.Stop.TheVariants.{OutOfMemory};
 
-    ghost from_gives = { λ _ e. e ≡ OutOfMemory (Allocator no_memory) };
+    ghost from_gives = { λ _ e. e ≡ OutOfMemory no_memory };
 
     fn from(failed: AllocFailed<T>) -> Stop {
-        Stop::OutOfMemory(Shortage::Allocator(failed.into()))
+        Stop::OutOfMemory(failed.into())
     }
 }
 

@@ -1,7 +1,7 @@
 ghost use Rattle.std.specs.Prelude.{◌≡◌, Err};
 ghost use Rattle.snap_script.specs.Gives.{Gives};
 ghost use Rattle.snap_script.specs.declared.fault.ReadError.TheVariants.{OutOfMemory};
-ghost use Rattle.snap_script.specs.declared.fault.Shortage.{Shortage};
+ghost use Rattle.snap_path.specs.declared.memory.NoMemory.{NoMemory};
 ghost use Rattle.snap_lines.specs.Effects.{Effects, effect_with};
 
 use snap_script::ReadError;
@@ -24,5 +24,5 @@ pub trait TakeLine {
     /// value after an error, and `read_lines` hands it no more lines then.
     fn take_line(&mut self, alloc: Global, line: &[u8]) -> Result<Option<String>, ReadError>
         ensures gives { Gives (effect_with self.new) result (effect self.old line.now) }
-        ensures memory { (want : Shortage) → result ≡ Err (OutOfMemory want) → wanting self.new };
+        ensures memory { (want : NoMemory) → result ≡ Err (OutOfMemory want) → wanting self.new };
 }

@@ -1,5 +1,5 @@
 -- The text that a file stands for, and which files are logs; cited by the public clauses of `Log`.
-use Rattle.std.specs.Prelude.{◌≡◌, ◌⊎◌, ℕ, ◌<◌, ◌≤◌, ◌==◌, Bool, true, false, not, ◌&&◌, ◌||◌, List, [], ◌∷◌, length, slice_index, if◌then◌else◌}
+use Rattle.std.specs.Prelude.{◌≡◌, ◌⊎◌, ℕ, zero, suc, ◌<◌, ◌≤◌, ◌==◌, Bool, true, false, not, ◌&&◌, ◌||◌, List, [], ◌∷◌, length, slice_index, if◌then◌else◌}
 
 -- a line feed is among the bytes
 abbrev pub has_feed : List ℕ → Bool
@@ -20,9 +20,14 @@ log_text file = text_from false file
 pub record AreLines (bytes : List ℕ) : Type 0 where
   pub whole : log_text bytes ≡ bytes
 
--- at this place of the file stands a zero, the closed gate
+-- the closed gate at a place: a zero before the first line, so that no text is one, and then a space, so that the last line of the file is blank
+abbrev pub gate_at : ℕ → ℕ
+gate_at zero = 0
+gate_at (suc n) = 32
+
+-- at this place of the file stands the closed gate
 abbrev pub HasGate : List ℕ → ℕ → Type 0
-HasGate file at = (at < length file) × (slice_index file at ≡ 0)
+HasGate file at = (at < length file) × (slice_index file at ≡ gate_at at)
 
 -- a log: a file of no byte or one, which is new, or one with a closed gate behind its lines
 abbrev pub IsLog : List ℕ → Type 0

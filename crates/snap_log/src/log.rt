@@ -1,6 +1,6 @@
 ghost use Rattle.std.specs.Prelude.{◌≡◌, ◌≢◌, ◌⊎◌, ◌+◌, ◌<◌, ◌≤◌, ◌^◌, ℕ, List, ◌++◌, length, take, drop, slice_index, OnOk, OnErr, IfOk, IfErr, IsTrue};
 ghost use Rattle.sqlite_disk.specs.Disk.{MoreFaults};
-ghost use Rattle.snap_log.specs.Texts.{log_text, AreLines, IsLog};
+ghost use Rattle.snap_log.specs.Texts.{log_text, gate_at, AreLines, IsLog};
 ghost use Rattle.snap_log.specs.Kept.{IsDurable, IsBeforeOrAfter};
 ghost use Rattle.snap_log.specs.Opening.{RefusesFile, FailsFor, IsRefusedFile};
 
@@ -97,7 +97,7 @@ impl<D: Disk> Log<D> {
         ensures crash { IsTrue (D.Disk.is_clean (disk_after result)) → (c : List ℕ) → D.Disk.may_leave (disk_after result) c → IsBeforeOrAfter (text_in self) lines.now c }
         // and a log, unless it leaves a byte in place of the gate that nobody wrote.
         ensures opens { IsTrue (D.Disk.is_clean (disk_after result)) → (c : List ℕ) → D.Disk.may_leave (disk_after result) c
-            → (slice_index c (length (text_in self)) ≡ 0) ⊎ (slice_index c (length (text_in self)) ≡ 123) → IsLog c }
+            → (slice_index c (length (text_in self)) ≡ gate_at (length (text_in self))) ⊎ (slice_index c (length (text_in self)) ≡ 123) → IsLog c }
         // It doesn't give up by itself.
         ensures faults { IfErr result (λ _. IsTrue (D.Disk.is_clean (disk_after result))
             → MoreFaults (D.Disk.faults (disk_of self)) (D.Disk.faults (disk_after result)) ⊎ (2 ^ 64 ≤ length (text_in self) + length lines.now + 1)) }

@@ -72,7 +72,7 @@ fn has_gate<D: Disk>(disk: &mut D, len: usize, at: usize) -> io::Result<bool>
     }
     let mut gate = [0u8];
     disk.read_at(at, &mut gate)?;
-    Ok(gate[0] == 0)
+    Ok(gate[0] == if at == 0 { b'\0' } else { b' ' })
 }
 
 // Writes the first closed gate of a file of at most one byte.

@@ -1,7 +1,7 @@
 // The two steps of an append.
 ghost use Rattle.std.specs.Prelude.{◌≡◌, ◌⊎◌, ◌+◌, ◌<◌, ◌≤◌, ◌^◌, ℕ, List, ◌∷◌, ◌++◌, length, slice_index, OnOk, IfErr, IsTrue};
 ghost use Rattle.sqlite_disk.specs.Disk.{CountsFault, MoreFaults};
-ghost use Rattle.snap_log.specs.Texts.{AreLines, IsLog};
+ghost use Rattle.snap_log.specs.Texts.{gate_at, AreLines, IsLog};
 ghost use Rattle.snap_log.specs.Kept.{IsDurable, IsStaged, IsBeforeOrAfter};
 ghost use Rattle.snap_log.specs.Stages.{IsUsableUnless, IsWrite};
 
@@ -24,13 +24,13 @@ fn write_behind<D: Disk>(disk: &mut D, end: usize, rest: &[u8]) -> io::Result<()
     ensures kept { (text : List ℕ) → end ≡ length text → IsDurable text (D.Disk.seen disk.old) (D.Disk.may_leave disk.old)
         → IsDurable text (D.Disk.seen disk.new) (D.Disk.may_leave disk.new) }
     ensures staged { (text : List ℕ) → end ≡ length text → IsDurable text (D.Disk.seen disk.old) (D.Disk.may_leave disk.old)
-        → OnOk result ((behind : List ℕ) × (D.Disk.seen disk.new ≡ text ++ 0 ∷ (rest.now ++ 0 ∷ behind))) }
+        → OnOk result ((behind : List ℕ) × (D.Disk.seen disk.new ≡ text ++ gate_at (length text) ∷ (rest.now ++ 32 ∷ behind))) }
     ensures faults { CountsFault result (D.Disk.faults disk.old) (D.Disk.faults disk.new) }
     ensures usable { IsTrue (D.Disk.is_usable disk.new) }
     ensures clean { D.Disk.is_clean disk.new ≡ D.Disk.is_clean disk.old }
 {
     disk.write_at(end + 1, rest)?;
-    disk.write_at(end + 1 + rest.len(), b"\0")
+    disk.write_at(end + 1 + rest.len(), b" ")
 }
 
 // The same, and syncs them.
@@ -62,7 +62,7 @@ pub(crate) fn open_gate<D: Disk>(disk: &mut D, end: usize) -> io::Result<()>
     ensures crash { (text rest : List ℕ) → end ≡ length text → AreLines (123 ∷ rest) → IsStaged text rest (D.Disk.seen disk.old) (D.Disk.may_leave disk.old)
         → (c : List ℕ) → D.Disk.may_leave disk.new c → IsBeforeOrAfter text (123 ∷ rest) c }
     ensures opens { (text rest : List ℕ) → end ≡ length text → AreLines (123 ∷ rest) → IsStaged text rest (D.Disk.seen disk.old) (D.Disk.may_leave disk.old)
-        → (c : List ℕ) → D.Disk.may_leave disk.new c → (slice_index c end ≡ 0) ⊎ (slice_index c end ≡ 123) → IsLog c }
+        → (c : List ℕ) → D.Disk.may_leave disk.new c → (slice_index c end ≡ gate_at end) ⊎ (slice_index c end ≡ 123) → IsLog c }
     ensures faults { CountsFault result (D.Disk.faults disk.old) (D.Disk.faults disk.new) }
     ensures usable { OnOk result (IsTrue (D.Disk.is_usable disk.new)) }
     ensures clean { D.Disk.is_clean disk.new ≡ D.Disk.is_clean disk.old }
@@ -86,7 +86,7 @@ pub(crate) fn add<D: Disk>(disk: &mut D, end: usize, lines: &[u8]) -> Result<(),
     ensures crash { (text : List ℕ) → end ≡ length text → IsDurable text (D.Disk.seen disk.old) (D.Disk.may_leave disk.old)
         → (c : List ℕ) → D.Disk.may_leave disk.new c → IsBeforeOrAfter text lines.now c }
     ensures opens { (text : List ℕ) → end ≡ length text → IsDurable text (D.Disk.seen disk.old) (D.Disk.may_leave disk.old)
-        → (c : List ℕ) → D.Disk.may_leave disk.new c → (slice_index c end ≡ 0) ⊎ (slice_index c end ≡ 123) → IsLog c }
+        → (c : List ℕ) → D.Disk.may_leave disk.new c → (slice_index c end ≡ gate_at end) ⊎ (slice_index c end ≡ 123) → IsLog c }
     ensures faults { IfErr result (λ _. MoreFaults (D.Disk.faults disk.old) (D.Disk.faults disk.new) ⊎ (2 ^ 64 ≤ end + length lines.now + 1)) }
     ensures fits { OnOk result (end + length lines.now < 2 ^ 64) }
     ensures usable { IsUsableUnless result (D.Disk.is_usable disk.new) }

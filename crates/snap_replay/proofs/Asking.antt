@@ -7,7 +7,7 @@ use Rattle.std.specs.declared.num.ParseIntError.{ParseIntError}
 use Rattle.std.proofs.Common.{◌≡◌, ◌⊎◌, inl, inr, ℕ, ◌<◌, ◌≤◌, Bool, true, false, List, length, Option, None, Some, Result, refl, sym, ap, ap₂, ◌∙◌, subst, arith}
 use Rattle.std.proofs.lemmas.Bool.Decides.{nat_tests}
 use Rattle.std.proofs.lemmas.Slice.Eq.{bytes_eq-Decides}
-use Rattle.clap.specs.Words.{ReadsOne, Row, Text, found_of, one_of, rows_of, subcommand_name_of, subcommand_rows, subcommand_rows_of}
+use Rattle.clap.specs.Words.{ReadsOne, Row, Text, first_of, found_of, one_of, rows_of, subcommand_name_of, subcommand_rows, subcommand_rows_of}
 use Rattle.clap.specs.declared.parser.matches.ArgMatches.{ArgMatches}
 use Rattle.clap.specs.declared.parser.matches.SubCommand.{SubCommand}
 use Rattle.std.specs.Box.{box_value}
@@ -16,7 +16,7 @@ use Rattle.clap.specs.declared.parser.matches.ArgMatches.TheViews.{out-ArgMatche
 use Rattle.snap_script.specs.declared.unknown.FieldRule.{FieldRule}
 use Rattle.snap_replay.specs.declared.Task.{Task}
 use Rattle.snap_replay.specs.declared.Task.TheVariants.{Run, Serve, Writers}
-use Rattle.snap_replay.specs.Words.{IsAsked, IsAskedAs, IsAskedBy, IsNumberOf, field_rule_of, is_given, job_options_of, run_options_of, writers_of}
+use Rattle.snap_replay.specs.Words.{IsAsked, IsAskedAs, IsAskedBy, IsNumberOf, IsServer, field_rule_of, is_given, job_options_of, run_options_of, writers_of}
 use Rattle.snap_replay.specs.Tasks.{IsTask}
 
 pub same_text : (a b : List ℕ) → a ≡ b → bytes_eq a b ≡ true
@@ -67,8 +67,8 @@ taken w rows ends fields e f low high = rw (e, f) (sym (inside w rows low high))
 pub asks_run : (name : List ℕ) (rows : List Row) → name ≡ codes "run" → IsAskedBy name rows (Some (Run (run_options_of rows)))
 asks_run name rows is = subst (λ (n : List ℕ). IsAskedBy n rows (Some (Run (run_options_of rows)))) (sym is) refl
 
-pub asks_serve : (name : List ℕ) (rows : List Row) → name ≡ codes "serve" → IsAskedBy name rows (Some Serve)
-asks_serve name rows is = subst (λ (n : List ℕ). IsAskedBy n rows (Some Serve)) (sym is) refl
+pub asks_serve : (name : List ℕ) (rows : List Row) (task : Option Task) → name ≡ codes "serve" → IsServer (first_of (codes "log") rows) task → IsAskedBy name rows task
+asks_serve name rows task is asked = subst (λ (n : List ℕ). IsAskedBy n rows task) (sym is) asked
 
 pub asks_writers : (name : List ℕ) (rows : List Row) (task : Option Task) → name ≡ codes "writers" → ((number : Option ℕ) × IsNumberOf (one_of (codes "workers") rows) number × (task ≡ writers_of number rows)) → IsAskedBy name rows task
 asks_writers name rows task is asked = subst (λ (n : List ℕ). IsAskedBy n rows task) (sym is) asked
@@ -115,7 +115,10 @@ writers_task (Some w) rows = by (nat_le 1 w && nat_le w 16) refl
 
 task_as : (a b c : Bool) (rows : List Row) (task : Option Task) → IsAskedAs a b c rows task → IfSome task IsTask
 task_as true b c rows task h = subst (λ t. IfSome t IsTask) (sym h) tt
-task_as false true c rows task h = subst (λ t. IfSome t IsTask) (sym h) tt
+task_as false true c rows (Some (Serve log)) h = tt
+task_as false true c rows (Some (Run options)) h = absurd h
+task_as false true c rows (Some (Writers options)) h = absurd h
+task_as false true c rows None h = absurd h
 task_as false false true rows task h = subst (λ t. IfSome t IsTask) (sym h.2) (writers_task h.0 rows)
 task_as false false false rows task h = subst (λ t. IfSome t IsTask) (sym h) tt
 

@@ -1,9 +1,9 @@
 -- What the words of a command line ask for, by clap's account of them.
-use Rattle.std.specs.Prelude.{◌≡◌, ◌<◌, ℕ, ◌^◌, Bool, true, false, ◌&&◌, nat_le, if◌then◌else◌, List, Option, None, Some, codes}
+use Rattle.std.specs.Prelude.{◌≡◌, ◌<◌, ℕ, ◌^◌, Bool, true, false, ◌&&◌, nat_le, if◌then◌else◌, List, Option, None, Some, codes, option_map}
 use Rattle.std.specs.Option.{option_map_or}
 use Rattle.std.specs.Str.{bytes_eq}
 use Rattle.std.specs.Str.Parse.{IsNumeral, digits_value, without_leading_plus}
-use Rattle.clap.specs.Words.{Row, Text, one_of}
+use Rattle.clap.specs.Words.{Row, Text, first_of, one_of}
 use Rattle.snap_script.specs.declared.unknown.FieldRule.{FieldRule}
 use Rattle.snap_script.specs.declared.unknown.FieldRule.TheVariants.{Any, Known}
 use Rattle.snap_session.specs.declared.run.RunOptions.{RunOptions}
@@ -38,10 +38,17 @@ abbrev pub writers_of : Option ℕ → List Row → Option Task
 writers_of None rows = None
 writers_of (Some workers) rows = if nat_le 1 workers && nat_le workers 16 then Some (Writers (job_options_of workers rows)) else None
 
+-- a server over the log that this text names, or over none
+abbrev pub IsServer : Option Text → Option Task → Type 0
+IsServer log None = ⊥
+IsServer log (Some (Run options)) = ⊥
+IsServer log (Some (Serve name)) = option_map (λ n. n.now) name ≡ log
+IsServer log (Some (Writers options)) = ⊥
+
 -- by whether the command is `run`, `serve` or `writers`, and what was found of its options: a run, a server, jobs by so many workers, or nothing
 abbrev pub IsAskedAs : Bool → Bool → Bool → List Row → Option Task → Type 0
 IsAskedAs true is_serve is_writers rows task = task ≡ Some (Run (run_options_of rows))
-IsAskedAs false true is_writers rows task = task ≡ Some Serve
+IsAskedAs false true is_writers rows task = IsServer (first_of (codes "log") rows) task
 IsAskedAs false false true rows task = (number : Option ℕ) × IsNumberOf (one_of (codes "workers") rows) number × (task ≡ writers_of number rows)
 IsAskedAs false false false rows task = task ≡ None
 

@@ -5,26 +5,29 @@
 //! here are the words of the command line, the standard streams and the status.
 #![tactic(auto)]
 
+mod logged;
+
 ghost use Rattle.clap.specs.Words.{found_of, one_of, rows_of, subcommand_rows_of};
-ghost use Rattle.snap_replay.specs.Exit.{exit_of};
+ghost use Rattle.snap_replay.specs.Exit.{exit_of, status_of_end};
 ghost use Rattle.snap_replay.specs.Replayed.{HasReplayed, HasServed};
 ghost use Rattle.snap_replay.specs.Tasks.{IsTask};
 ghost use Rattle.snap_replay.specs.Words.{IsAsked, IsNumberOf, field_rule_of, is_given, run_options_of, writers_of};
 ghost use Rattle.snap_replay.specs.declared.Task.TheVariants.{Writers};
 ghost use Rattle.std.specs.Prelude.{◌≡◌, ◌≤◌, IfOk, IfSome, Option, codes, option_map, ℕ};
 
+use crate::logged::{LogStop, serve_file};
 use clap::error::ErrorKind as WordsErrorKind;
 use clap::{Arg, ArgAction, ArgMatches, Command, Error, value_parser};
 use snap_jobs::{JobOptions, JobsStop, MAX_WORKERS, write_jobs};
 use snap_lines::Stop;
-use snap_script::{FieldRule, Shortage};
+use snap_script::FieldRule;
 use snap_session::{RunOptions, replay, serve};
 use std::alloc::Global;
 use std::io::{BufWriter, ErrorKind, Read, Write};
 use std::process::ExitCode;
 use std::sync::Wait;
 use std::thread::Threads;
-use std::{env, io};
+use std::{env, fmt, io};
 
 // The version of the program.
 const VERSION: &str = "0.1.0";
@@ -32,8 +35,46 @@ const VERSION: &str = "0.1.0";
 // The status of bad words.
 const BAD_WORDS: u8 = 2;
 
-// Memory was refused, as `io` and `clap` tell it, which keep the allocator's error to themselves.
-const WANT_OF_MEMORY: JobsStop = JobsStop::Lines(Stop::OutOfMemory(Shortage::Library));
+// Why the program ended before its work was done.
+#[derive(Debug, PartialEq, Eq, Drop)]
+enum Ended {
+    // Lines or jobs stopped.
+    Stopped(JobsStop),
+    // A library was refused memory, and keeps the allocator's error to itself: `io`, or `clap` of the words.
+    WantOfMemory,
+}
+
+impl Ended {
+    // The status of the program.
+    fn status(&self) -> u8
+        ensures { result ≡ status_of_end self.now }
+    {
+        match self {
+            Ended::Stopped(stop) => stop.status(),
+            Ended::WantOfMemory => 4,
+        }
+    }
+}
+
+impl From<JobsStop> for Ended {
+    ghost use Rattle.std.specs.Prelude.{◌≡◌};
+    ghost use Rattle.snap_replay.specs.declared.Ended.TheVariants.{Stopped};
+
+    ghost from_gives = { λ stop e. e ≡ Stopped stop };
+
+    fn from(stop: JobsStop) -> Ended {
+        Ended::Stopped(stop)
+    }
+}
+
+impl fmt::Display for Ended {
+    fn fmt<W: fmt::Write>(&self, f: &mut fmt::Formatter<W>) -> fmt::Result {
+        match self {
+            Ended::Stopped(stop) => write!(f, "{stop}"),
+            Ended::WantOfMemory => f.write_str("want of memory"),
+        }
+    }
+}
 
 // Replays the script of an input.
 fn replay_from<R: Read, W: Write>(
@@ -64,42 +105,56 @@ fn serve_from<R: Read, W: Write>(
     }
 }
 
-fn replayed<T: Input + Print + AllocGlobal>(rt: &T, options: RunOptions) -> Result<(), JobsStop> {
+fn replayed<T: Input + Print + AllocGlobal>(rt: &T, options: RunOptions) -> Result<(), Ended> {
     let alloc = rt.alloc();
     let mut input = rt.reader();
     let Ok(mut output) = BufWriter::new(alloc, io::writer(rt)) else {
-        return Err(WANT_OF_MEMORY);
+        return Err(Ended::WantOfMemory);
     };
-    replay_from(alloc, &mut input, &mut output, options)
+    replay_from(alloc, &mut input, &mut output, options)?;
+    Ok(())
 }
 
-fn lines_served<T: Input + Print + AllocGlobal>(rt: &T) -> Result<(), JobsStop> {
+fn lines_served<T: Input + Print + AllocGlobal>(rt: &T) -> Result<(), Ended> {
     let alloc = rt.alloc();
     let mut input = rt.reader();
     let Ok(mut output) = BufWriter::new(alloc, io::writer(rt)) else {
-        return Err(WANT_OF_MEMORY);
+        return Err(Ended::WantOfMemory);
     };
-    serve_from(alloc, &mut input, &mut output)
+    serve_from(alloc, &mut input, &mut output)?;
+    Ok(())
 }
 
 fn jobs_written<T: Threads + Wait + Sync + Input + Print + AllocGlobal>(
     rt: &T,
     options: JobOptions,
-) -> Result<(), JobsStop>
+) -> Result<(), Ended>
     requires { (1 ≤ options.workers) × (options.workers ≤ 16) }
 {
     let alloc = rt.alloc();
     let mut input = rt.reader();
     let Ok(mut output) = BufWriter::new(alloc, io::writer(rt)) else {
-        return Err(WANT_OF_MEMORY);
+        return Err(Ended::WantOfMemory);
     };
-    write_jobs(rt, alloc, &mut input, &mut output, options)
+    write_jobs(rt, alloc, &mut input, &mut output, options)?;
+    Ok(())
 }
 
 // The status of a run that ended so; the words for it go to standard error.
-fn status<T: Eprint>(rt: &T, ended: Result<(), JobsStop>) -> u8
+fn status<T: Eprint>(rt: &T, ended: Result<(), Ended>) -> u8
     ensures { result ≡ exit_of ended }
 {
+    match ended {
+        Ok(()) => 0,
+        Err(stop) => {
+            let _ = rt.eprintln(&stop);
+            stop.status()
+        }
+    }
+}
+
+// The same of a server over a log.
+fn log_status<T: Eprint>(rt: &T, ended: Result<(), LogStop>) -> u8 {
     match ended {
         Ok(()) => 0,
         Err(stop) => {
@@ -114,7 +169,7 @@ fn words_of(rt: &HostRuntime) -> Result<Vec<String>, u8> {
     let args = match env::args(rt) {
         Ok(args) => args,
         Err(e) if e.kind() == ErrorKind::OutOfMemory => {
-            return Err(status(rt, Err(WANT_OF_MEMORY)));
+            return Err(status(rt, Err(Ended::WantOfMemory)));
         }
         Err(_) => {
             let _ = rt.eprintln("error: an argument is no text");
@@ -123,17 +178,17 @@ fn words_of(rt: &HostRuntime) -> Result<Vec<String>, u8> {
     };
     match args.collect::<Vec<String>>(rt.alloc()) {
         Ok(words) => Ok(words),
-        Err(refused) => Err(status(rt, Err(refused.into()))),
+        Err(refused) => Err(status(rt, Err(Ended::Stopped(refused.into())))),
     }
 }
 
 // What the command line asks for.
 #[derive(Clone, Copy, Debug, PartialEq, Eq)]
-enum Task {
+enum Task<'a> {
     // Replay the script on standard input.
     Run { options: RunOptions },
-    // Answer each line on standard input.
-    Serve,
+    // Answer each line on standard input, and keep those that change the store in a file, if one is named.
+    Serve { log: Option<&'a str> },
     // Run the jobs on standard input by 1 to 16 workers.
     Writers { options: JobOptions },
 }
@@ -146,6 +201,9 @@ const ENDS: &str = "ends";
 
 // The option of `run` and of `writers` by which unknown fields are faults.
 const STRICT: &str = "strict";
+
+// The option of `serve` that names the file of its log.
+const LOG: &str = "log";
 
 // The option of `run` by which it ends at the first refusal.
 const STOP: &str = "stop";
@@ -163,7 +221,9 @@ const SERVE_HELP: &str =
     r#"In: a JSON object a line, as run --strict reads them; `id`, a text or a number, may stand in each.
 Out: a line for each, in order, before the next is read: its answer, {"fault":WORDS,"line":N} where it is
 no command, {"empty":true} where it is empty; with an id {"answer":ANSWER,"id":ID}.
-Status: 0 at the end of the input, 2 bad words, 3 a read or a write failed, 4 want of memory.
+With --log, {"error":"NotKept","from":"log"} for a line that would change the store and can't be kept.
+Status: 0 at the end of the input, 2 bad words, 3 a read or a write failed, 4 want of memory; with --log also
+6 where another process has the log, 7 where it is none or can't be read, 8 where a sync failed.
 Example:
   printf '%s\n' '{"do":"open","root":"/r","namespaces":[["a",9,9]]}' '{"do":"report","id":7}' | snap_replay serve"#;
 
@@ -222,29 +282,39 @@ fn writers_command<'a>(alloc: Global) -> Result<Command<'a>, Error> {
     Ok(writers)
 }
 
-fn command<'a>(alloc: Global) -> Result<Command<'a>, Error> {
+// The command `serve`.
+fn serve_command<'a>(alloc: Global) -> Result<Command<'a>, Error> {
+    let log = Arg::new(alloc, LOG)
+        .long(LOG)
+        .value_name("FILE")
+        .help(
+            "Keeps each line that changes the store in this file before it is answered, and begins with those there",
+        )
+        .action(ArgAction::Set);
     let serve = Command::new(alloc, "serve")
         .about(
             "Serves a client: reads a command a line, answers every line and goes on after faults",
         )
-        .after_help(SERVE_HELP);
+        .after_help(SERVE_HELP)
+        .arg(log)?;
+    Ok(serve)
+}
+
+fn command<'a>(alloc: Global) -> Result<Command<'a>, Error> {
     let program = Command::new(alloc, "snap_replay")
         .about("A container snapshotter with an exact usage ledger")
         .version(VERSION)
         .subcommand_required(true)
         .subcommand(run_command(alloc)?)?
-        .subcommand(serve)?
+        .subcommand(serve_command(alloc)?)?
         .subcommand(writers_command(alloc)?)?;
     Ok(program)
 }
 
-// What the words ask for, the program's name first, or clap's refusal of them. A call for help or for the version
-// is a refusal too. Takes memory.
-fn task_of(alloc: Global, words: &[String]) -> Result<Option<Task>, Error>
-    ensures { IfOk result (λ task. IfSome task IsTask) }
-{
-    let matches = command(alloc)?.try_get_matches_from(words)?;
-    Ok(chosen(&matches))
+// What clap finds in the words, the program's name first, or its refusal of them. A call for help or for the version is
+// a refusal too. Takes memory.
+fn matches_of<'a>(alloc: Global, words: &'a [String]) -> Result<ArgMatches<'a>, Error> {
+    Ok(command(alloc)?.try_get_matches_from(words)?)
 }
 
 // Whether the option is given.
@@ -291,7 +361,7 @@ fn job_options(words: &ArgMatches<'_>) -> Option<JobOptions>
 }
 
 // The task, where the words have one; those that clap has let through do.
-fn chosen(matches: &ArgMatches<'_>) -> Option<Task>
+fn chosen<'a>(matches: &'a ArgMatches<'_>) -> Option<Task<'a>>
     ensures asked { IsAsked (subcommand_rows_of matches.now) result }
     ensures task { IfSome result IsTask }
 {
@@ -300,7 +370,9 @@ fn chosen(matches: &ArgMatches<'_>) -> Option<Task>
         "run" => Some(Task::Run {
             options: run_options(own),
         }),
-        "serve" => Some(Task::Serve),
+        "serve" => Some(Task::Serve {
+            log: own.get_str(LOG),
+        }),
         "writers" => {
             let options = job_options(own)?;
             Some(Task::Writers { options })
@@ -309,21 +381,36 @@ fn chosen(matches: &ArgMatches<'_>) -> Option<Task>
     }
 }
 
-// Does what the words ask for.
-fn run<T: Threads + Wait + Sync + Input + Print + Eprint + AllocGlobal>(
+// Does what is asked for.
+fn done<T: Threads + Wait + Sync + Input + Print + Eprint + AllocGlobal>(
     rt: &T,
-    words: &[String],
-) -> u8 {
-    match task_of(rt.alloc(), words) {
-        Ok(Some(Task::Run { options })) => status(rt, replayed(rt, options)),
-        Ok(Some(Task::Serve)) => status(rt, lines_served(rt)),
-        Ok(Some(Task::Writers { options })) => status(rt, jobs_written(rt, options)),
-        Ok(None) => {
+    files: &HostRuntime,
+    task: Option<Task<'_>>,
+) -> u8
+    requires { IfSome task IsTask }
+{
+    match task {
+        Some(Task::Run { options }) => status(rt, replayed(rt, options)),
+        Some(Task::Serve { log: None }) => status(rt, lines_served(rt)),
+        Some(Task::Serve { log: Some(path) }) => log_status(rt, serve_file(files, path)),
+        Some(Task::Writers { options }) => status(rt, jobs_written(rt, options)),
+        None => {
             let _ = rt.eprintln("error: no command");
             BAD_WORDS
         }
+    }
+}
+
+// Does what the words ask for.
+fn run<T: Threads + Wait + Sync + Input + Print + Eprint + AllocGlobal>(
+    rt: &T,
+    files: &HostRuntime,
+    words: &[String],
+) -> u8 {
+    match matches_of(rt.alloc(), words) {
+        Ok(matches) => done(rt, files, chosen(&matches)),
         Err(error) if error.kind() == WordsErrorKind::OutOfMemory => {
-            status(rt, Err(WANT_OF_MEMORY))
+            status(rt, Err(Ended::WantOfMemory))
         }
         Err(error) if error.use_stderr() => {
             let _ = rt.eprint(&error);
@@ -331,14 +418,14 @@ fn run<T: Threads + Wait + Sync + Input + Print + Eprint + AllocGlobal>(
         }
         Err(shown) => match rt.print(&shown) {
             Ok(()) => 0,
-            Err(_) => status(rt, Err(JobsStop::Lines(Stop::OutputFailed))),
+            Err(_) => status(rt, Err(Ended::Stopped(JobsStop::Lines(Stop::OutputFailed)))),
         },
     }
 }
 
 fn main(rt: HostRuntime) -> ExitCode {
     match words_of(&rt) {
-        Ok(words) => ExitCode::from(run(&rt, words.as_slice())),
+        Ok(words) => ExitCode::from(run(&rt, &rt, words.as_slice())),
         Err(status) => ExitCode::from(status),
     }
 }

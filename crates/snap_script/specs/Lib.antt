@@ -5,6 +5,7 @@ pub mod Words
 pub mod Known
 pub mod Operations
 pub mod Commands
+pub mod Changes
 pub mod Lines
 pub mod Gives
 pub mod Answers

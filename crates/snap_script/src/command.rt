@@ -1,4 +1,5 @@
 ghost use Rattle.std.specs.Prelude.{◌≡◌, IfOk, map};
+ghost use Rattle.snap_script.specs.Changes.{changes_store, opens_store};
 
 use snap_call::{Call, Config, Namespace, Question};
 use snap_path::Path;
@@ -132,6 +133,47 @@ pub enum Lookup {
     Resolve,
     /// What is taken at and below it.
     Usage,
+}
+
+// Whether a store is opened with the configuration.
+fn opens_store(config: &Config) -> bool
+    ensures { result ≡ opens_store config.now }
+{
+    config.bad_field().is_none() && 1 <= config.journal
+}
+
+impl Command {
+    /// Whether the command may change a store, or opens one. Any other leaves the store as it is, whatever store it is,
+    /// and makes no entry. An `Open` opens none where a part of its configuration is malformed, or its journal has no
+    /// room for an entry.
+    ///
+    /// Takes no memory. Of an `Open` the cost is that of [`bad_field`](Config::bad_field).
+    pub fn changes(&self) -> bool
+        ensures { result ≡ changes_store self.now }
+    {
+        match self {
+            Command::Open { config } => opens_store(config),
+            Command::Session
+            | Command::Reopen { .. }
+            | Command::Roll { .. }
+            | Command::Call(_)
+            | Command::Charge { .. }
+            | Command::Trim { .. }
+            | Command::Commit { .. }
+            | Command::Discard { .. }
+            | Command::File { .. } => true,
+            Command::Ask(_)
+            | Command::Lookup { .. }
+            | Command::TrySweep { .. }
+            | Command::ChainUsage { .. }
+            | Command::Quota { .. }
+            | Command::Leases { .. }
+            | Command::Tree { .. }
+            | Command::Diff { .. }
+            | Command::Journal { .. }
+            | Command::Report => false,
+        }
+    }
 }
 
 /// The names of the namespaces, in their order. The memory and the cost grow with them.

@@ -2,7 +2,6 @@ ghost use Rattle.std.specs.Prelude.{◌≡◌, Some};
 ghost use Rattle.snap_path.specs.Memory.{no_memory};
 ghost use Rattle.snap_script.specs.Faults.{bad_field_words, brief, error_told, fault_told, fault_words, field_name, found_words, of_operation, operation_brief, operation_words, unknown_field_words, wanted};
 ghost use Rattle.snap_script.specs.declared.fault.ReadError.TheVariants as errors;
-ghost use Rattle.snap_script.specs.declared.fault.Shortage.TheVariants.{Allocator};
 
 use crate::refused::Refused;
 use crate::unknown::FieldRule;
@@ -138,20 +137,11 @@ pub enum OperationFault {
     BadField(Field, Option<Found>),
 }
 
-/// Who tells of want of memory.
-#[derive(Clone, Copy, Debug, PartialEq, Eq)]
-pub enum Shortage {
-    /// An allocator, whose refusal it is.
-    Allocator(NoMemory),
-    /// A library that keeps the allocator's error to itself: `io` and `clap` of the words of a command line.
-    Library,
-}
-
 /// Why no line was read.
 #[derive(Drop)]
 pub enum ReadError {
     Fault(Fault),
-    OutOfMemory(Shortage),
+    OutOfMemory(NoMemory),
 }
 
 impl Field {
@@ -447,14 +437,6 @@ impl fmt::Display for Fault {
     }
 }
 
-impl From<AllocError> for Shortage {
-    ghost from_gives = { λ _ shortage. shortage ≡ Allocator no_memory };
-
-    fn from(refused: AllocError) -> Shortage {
-        Shortage::Allocator(refused.into())
-    }
-}
-
 impl From<Fault> for ReadError {
     ghost from_gives = { λ fault e. e ≡ errors.Fault fault };
 
@@ -464,25 +446,25 @@ impl From<Fault> for ReadError {
 }
 
 impl From<NoMemory> for ReadError {
-    ghost from_gives = { λ _ e. e ≡ errors.OutOfMemory (Allocator no_memory) };
+    ghost from_gives = { λ _ e. e ≡ errors.OutOfMemory no_memory };
 
     fn from(no_memory: NoMemory) -> ReadError {
-        ReadError::OutOfMemory(Shortage::Allocator(no_memory))
+        ReadError::OutOfMemory(no_memory)
     }
 }
 
 impl From<AllocError> for ReadError {
-    ghost from_gives = { λ _ e. e ≡ errors.OutOfMemory (Allocator no_memory) };
+    ghost from_gives = { λ _ e. e ≡ errors.OutOfMemory no_memory };
 
     fn from(refused: AllocError) -> ReadError {
-        ReadError::OutOfMemory(Shortage::Allocator(refused.into()))
+        ReadError::OutOfMemory(refused.into())
     }
 }
 
 impl<T: Drop> From<AllocFailed<T>> for ReadError {
-    ghost from_gives = { λ _ e. e ≡ errors.OutOfMemory (Allocator no_memory) };
+    ghost from_gives = { λ _ e. e ≡ errors.OutOfMemory no_memory };
 
     fn from(failed: AllocFailed<T>) -> ReadError {
-        ReadError::OutOfMemory(Shortage::Allocator(failed.into()))
+        ReadError::OutOfMemory(failed.into())
     }
 }

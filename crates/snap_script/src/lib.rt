@@ -29,7 +29,7 @@ mod verb;
 pub use answer::{Answer, JournalEntry, QuotaInfo, Shown, TreeNode};
 pub use calls::call_line;
 pub use command::{Command, Lookup, names_of};
-pub use fault::{Fault, Field, Found, OperationFault, ReadError, Shortage};
+pub use fault::{Fault, Field, Found, OperationFault, ReadError};
 pub use line::{Line, MAX_LINE_BYTES, is_empty, read_line, read_object, read_open};
 pub use operation::operations;
 pub use parse::named;

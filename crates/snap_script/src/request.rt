@@ -5,10 +5,11 @@ ghost use Rattle.snap_script.specs.Lines.{command_in, line_of};
 ghost use Rattle.snap_script.specs.Requests.{id_in_request, id_of};
 ghost use Rattle.snap_script.specs.declared.unknown.FieldRule.TheVariants.{KnownAndId};
 
-use crate::fault::{Fault, ReadError, Shortage};
+use crate::fault::{Fault, ReadError};
 use crate::line::{Line, MAX_LINE_BYTES, command_in, is_empty, read_object};
 use crate::unknown::FieldRule;
 use snap_json::{Scratch, Value};
+use snap_path::NoMemory;
 use snap_record::Text;
 use std::alloc::{AllocError, Global};
 
@@ -53,7 +54,7 @@ fn id_in(alloc: Global, line: &Value<'_>) -> Result<Option<Id>, AllocError>
 }
 
 /// The request of the object that a line is.
-fn request_in(alloc: Global, opened: bool, line: &Value<'_>) -> Result<Request, Shortage>
+fn request_in(alloc: Global, opened: bool, line: &Value<'_>) -> Result<Request, NoMemory>
     ensures { IfOk result (λ request. (request.id ≡ id_in_request (view line.now)) × (request.line ≡ command_in KnownAndId opened (view line.now))) }
 {
     let id = id_in(alloc, line)?;
@@ -63,7 +64,7 @@ fn request_in(alloc: Global, opened: bool, line: &Value<'_>) -> Result<Request, 
             id,
             line: Err(fault),
         }),
-        Err(ReadError::OutOfMemory(shortage)) => Err(shortage),
+        Err(ReadError::OutOfMemory(no_memory)) => Err(no_memory),
     }
 }
 
@@ -71,7 +72,7 @@ fn request_in(alloc: Global, opened: bool, line: &Value<'_>) -> Result<Request, 
 /// `id`. `opened` says whether a store was opened. A line of more than 16,777,216 bytes and one that is no object have no
 /// id.
 ///
-/// `Shortage` where memory for the line's value or for the command was refused. The memory and the cost are those of
+/// `NoMemory` where memory for the line's value or for the command was refused. The memory and the cost are those of
 /// [`read_line`](crate::read_line).
 #[tactic(auto, unfolding(crate::specs::Lines::line_of, crate::specs::Lines::command_line, crate::specs::Requests::id_of))]
 pub fn read_request(
@@ -79,7 +80,7 @@ pub fn read_request(
     bytes: &[u8],
     opened: bool,
     scratch: &mut Scratch,
-) -> Result<Request, Shortage>
+) -> Result<Request, NoMemory>
     ensures id { IfOk result (λ request. request.id ≡ id_of bytes.now) }
     ensures line { IfOk result (λ request. request.line ≡ line_of KnownAndId opened bytes.now) }
 {
@@ -92,6 +93,6 @@ pub fn read_request(
     match read_object(alloc, bytes, scratch) {
         Ok(line) => Ok(request_in(alloc, opened, &line)?),
         Err(ReadError::Fault(fault)) => Ok(Request::without_id(Err(fault))),
-        Err(ReadError::OutOfMemory(shortage)) => Err(shortage),
+        Err(ReadError::OutOfMemory(no_memory)) => Err(no_memory),
     }
 }

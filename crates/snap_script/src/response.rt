@@ -6,6 +6,7 @@ use crate::answer::Answer;
 use crate::fault::Fault;
 use crate::request::Id;
 use crate::to_json::{ToJson, only, pair};
+use crate::values::error;
 use snap_json::Writer;
 use std::alloc::{AllocError, Global};
 
@@ -18,6 +19,9 @@ pub enum Response {
     Fault { fault: Fault, line: u64 },
     /// The line is empty: `{"empty":true}`.
     Empty,
+    /// The line would have changed the store, and the log could not keep it: `{"error":"NotKept","from":"log"}`.
+    /// Nothing was changed, and the line may be sent again.
+    NotKept,
 }
 
 /// The id as the client wrote it.
@@ -43,6 +47,7 @@ impl ToJson for Response {
                 pair(alloc, out, "fault", &words.as_str(), "line", line)
             }
             Response::Empty => only(alloc, out, "empty", &true),
+            Response::NotKept => error(alloc, out, "NotKept", "log"),
         }
     }
 }

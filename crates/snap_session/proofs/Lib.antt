@@ -2,3 +2,5 @@ pub mod Moving
 pub mod Opening
 pub mod Entries
 pub mod Serving
+pub mod Asking
+pub mod Keeping

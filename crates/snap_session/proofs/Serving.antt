@@ -1,7 +1,7 @@
 -- No line ends a server.
 use Rattle.std.specs.Prelude.{IfErr, IfSome}
 use Rattle.std.proofs.Common.{◌≡◌, ℕ, List, [], ◌∷◌, Option, None, Some, Result, Ok, Err, refl, sym, ◌∙◌}
-use Rattle.snap_script.specs.declared.fault.Shortage.{Shortage}
+use Rattle.snap_path.specs.declared.memory.NoMemory.{NoMemory}
 use Rattle.snap_lines.specs.Lines.{lines_of}
 use Rattle.snap_lines.specs.Transcripts.{Stops, effect_at, transcript, transcript_from}
 use Rattle.snap_lines.specs.declared.stop.Stop.{Stop}
@@ -34,6 +34,6 @@ never_at_a_line (Err stop) None left before after h = tt
 never_at_a_line (Err stop) (Some bytes) left before after h = served_on bytes left stop before after h
 
 -- nothing was read
-pub not_begun : (want : Shortage) (a d x : Option (List ℕ)) → IfSome a (λ bytes. HasStoppedServing bytes d (OutOfMemory want) x x)
+pub not_begun : (want : NoMemory) (a d x : Option (List ℕ)) → IfSome a (λ bytes. HasStoppedServing bytes d (OutOfMemory want) x x)
 not_begun want None d x = tt
 not_begun want (Some bytes) d x = reading_not_begun None served idle want (Some bytes) d x

@@ -10,3 +10,4 @@ pub mod Commands
 pub mod Wanting
 pub mod Script
 pub mod Service
+pub mod Kept

@@ -3,7 +3,8 @@
 //!
 //! What is written is one definition, `script` in `specs/Script.antt`: the transcript of `snap_lines`, where
 //! each line does what its command does. That is `command_done` in `specs/Commands.antt`, over the steps of a world.
-//! What a server writes, which answers each line, is `service` in `specs/Service.antt`.
+//! What a server writes, which answers each line, is `service` in `specs/Service.antt`. What a line does where the store's
+//! changes are kept is `served_kept` in `specs/Kept.antt`.
 #![tactic(auto)]
 
 mod calls;
@@ -11,6 +12,7 @@ mod carried;
 mod diff;
 mod file_commands;
 mod journal;
+mod kept;
 mod leases;
 mod lookups;
 mod opened;
@@ -22,6 +24,7 @@ mod server;
 mod step;
 mod tree;
 
+pub use kept::KeptServer;
 pub use run::{RunOptions, Runner, replay, replay_within};
 pub use script::Script;
 pub use server::{Server, serve};

@@ -1,6 +1,7 @@
-ghost use Rattle.std.specs.Prelude.{◌≡◌, ◌≤◌, [], IfOk, OnOk, None, true, is_some};
+ghost use Rattle.std.specs.Prelude.{◌≡◌, ◌≤◌, [], IfOk, OnOk, None, true, false, is_some};
 ghost use Rattle.snap_call.specs.Forms.{is_config};
 ghost use Rattle.snap_call.specs.declared.call.Call.TheVariants as calls;
+ghost use Rattle.snap_script.specs.Changes.{changes_store};
 ghost use Rattle.snap_world.specs.declared.step.Answer.{Answer as StepAnswer};
 ghost use Rattle.snap_world.specs.declared.step.Step.TheVariants.{Locked};
 ghost use Rattle.snap_world.specs.Move.{move};
@@ -126,15 +127,8 @@ impl<N: StoreName> Script<N> {
         self.start(config)
     }
 
-    /// A command by a session of this number: its answer, and what it makes of the store.
-    ///
-    /// Without a store every command but `Open` is answered `NoSession`; with one, `Open` is refused as
-    /// a bad argument and the store stays. No line of a script asks for either. A malformed `Open` is answered
-    /// `BadConfig` with its first malformed field; it, and one whose journal has no room, leave the name to a later
-    /// one. `NoMemory` where memory was refused; the run of a script ends with it, and nothing is said of the store.
-    /// An `Open` that it ends may have spent the store's name, so that a later one answers `NoMemory` too. The cost is
-    /// that of the command's steps, at most three.
-    pub fn act(&mut self, n: u64, command: Command) -> Result<Answer, NoMemory>
+    // A command by a session of this number.
+    fn carry_out(&mut self, n: u64, command: Command) -> Result<Answer, NoMemory>
         ensures done { IfOk result (λ answer. command_done self.old.store n command ≡ (self.new.store, answer)) }
         ensures spent { OnOk result (self.new.spent ≡ self.old.spent) }
     {
@@ -145,6 +139,22 @@ impl<N: StoreName> Script<N> {
                 _ => Ok(Answer::NoSession),
             },
         }
+    }
+
+    /// A command by a session of this number: its answer, and what it makes of the store.
+    ///
+    /// Without a store every command but `Open` is answered `NoSession`; with one, `Open` is refused as
+    /// a bad argument and the store stays. No line of a script asks for either. A malformed `Open` is answered
+    /// `BadConfig` with its first malformed field; it, and one whose journal has no room, leave the name to a later
+    /// one. `NoMemory` where memory was refused; the run of a script ends with it, and nothing is said of the store.
+    /// An `Open` that it ends may have spent the store's name, so that a later one answers `NoMemory` too. The cost is
+    /// that of the command's steps, at most three.
+    pub fn act(&mut self, n: u64, command: Command) -> Result<Answer, NoMemory>
+        ensures done { IfOk result (λ answer. command_done self.old.store n command ≡ (self.new.store, answer)) }
+        ensures unchanged { IfOk result (λ answer. changes_store command ≡ false → self.new.store ≡ self.old.store) }
+        ensures spent { OnOk result (self.new.spent ≡ self.old.spent) }
+    {
+        self.carry_out(n, command)
     }
 
     /// Carries out a line, and answers its command; an empty one does nothing and has no answer. As [`act`](Self::act).

@@ -1,11 +1,15 @@
-ghost use Rattle.std.specs.Prelude.{◌≡◌, None, IfOk, OnOk, IfErr, IfSome};
-ghost use Rattle.snap_lines.specs.Transcripts.{Tells};
+ghost use Rattle.std.specs.Prelude.{◌≡◌, None, IfOk, OnOk, IfErr, IfSome, is_some};
+ghost use Rattle.snap_script.specs.Lines.{line_of};
+ghost use Rattle.snap_script.specs.Requests.{id_of};
+ghost use Rattle.snap_script.specs.declared.response.Response.TheVariants.{NotKept};
+ghost use Rattle.snap_script.specs.declared.unknown.FieldRule.TheVariants.{KnownAndId};
+ghost use Rattle.snap_lines.specs.Transcripts.{Tells, next_line};
 ghost use Rattle.snap_session.specs.Service.{HasStoppedServing, idle, responded, served, service};
 
 use crate::script::Script;
 use snap_ledger::{NewTable, StoreName};
 use snap_lines::{Stop, TakeLine, read_lines};
-use snap_script::{Fault, Line, ReadError, Response, Scratch, read_request};
+use snap_script::{Fault, Line, ReadError, Request, Response, Scratch, read_request};
 use snap_world::NoMemory;
 use std::alloc::Global;
 use std::io::{Read, Write};
@@ -63,6 +67,50 @@ impl<N: StoreName> Server<N> {
             scratch: Scratch::new(alloc),
         }
     }
+
+    // Reads a line with its id.
+    pub(crate) fn read(&mut self, alloc: Global, line: &[u8]) -> Result<Request, NoMemory>
+        ensures id { IfOk result (λ request. request.id ≡ id_of line.now) }
+        ensures line { IfOk result (λ request. request.line ≡ line_of KnownAndId (is_some self.old.script.store) line.now) }
+        ensures same { self.new ≡ self.old }
+    {
+        let opened = self.script.is_open();
+        read_request(alloc, line, opened, &mut self.scratch)
+    }
+
+    // Carries out what was read of the next line.
+    pub(crate) fn respond(&mut self, line: Result<Line, Fault>) -> Result<Response, NoMemory>
+        ensures script { IfOk result (λ response. responded self.old.script (next_line self.old.lines) line ≡ (self.new.script, response)) }
+        ensures lines { OnOk result (self.new.lines ≡ next_line self.old.lines) }
+    {
+        self.lines = self.lines.saturating_add(1);
+        respond(&mut self.script, self.lines, line)
+    }
+
+    // Counts the next line, which isn't kept.
+    pub(crate) fn pass_over(&mut self) -> Response
+        ensures response { result ≡ NotKept }
+        ensures script { self.new.script ≡ self.old.script }
+        ensures lines { self.new.lines ≡ next_line self.old.lines }
+    {
+        self.lines = self.lines.saturating_add(1);
+        Response::NotKept
+    }
+
+    // Whether a store stands.
+    pub(crate) fn is_open(&self) -> bool
+        ensures { result ≡ is_some self.now.script.store }
+    {
+        self.script.is_open()
+    }
+
+    // The next line is the first.
+    pub(crate) fn count_anew(&mut self)
+        ensures script { self.new.script ≡ self.old.script }
+        ensures lines { self.new.lines ≡ 0 }
+    {
+        self.lines = 0;
+    }
 }
 
 /// A line is read with its id and carried out. The text is the line of its response.
@@ -71,13 +119,11 @@ impl<N: StoreName> TakeLine for Server<N> {
 
     #[tactic(auto, unfolding(crate::specs::Service::served))]
     fn take_line(&mut self, alloc: Global, line: &[u8]) -> Result<Option<String>, ReadError> {
-        let opened = self.script.is_open();
-        let request = match read_request(alloc, line, opened, &mut self.scratch) {
+        let request = match self.read(alloc, line) {
             Ok(request) => request,
             Err(shortage) => return Err(ReadError::OutOfMemory(shortage)),
         };
-        self.lines = self.lines.saturating_add(1);
-        let response = respond(&mut self.script, self.lines, request.line)?;
+        let response = self.respond(request.line)?;
         Ok(Some(response.line(alloc, &request.id)?))
     }
 }

@@ -89,7 +89,7 @@ fn the_bytes_of_a_log(rt: HostRuntime) {
     equal(
         &rt,
         file.bytes(),
-        b"{\"a\":1}\n{\"b\":2}\n{\"a\":1}\n\0".as_slice(),
+        b"{\"a\":1}\n{\"b\":2}\n{\"a\":1}\n ".as_slice(),
     );
 }
 
@@ -101,9 +101,9 @@ fn files_that_are_logs(rt: HostRuntime) {
         (b"x", 0),
         (b"\0", 0),
         (b"\0{}\n\0", 0),
-        (b"{}\n\0", 3),
-        (b"{}\n\0{}\n", 3),
-        (b"{}\n{\"a\":\"\0\"}\n\0", 13),
+        (b"{}\n ", 3),
+        (b"{}\n {}\n", 3),
+        (b"{}\n{\"a\":\"\0\"}\n ", 13),
     ];
     for (bytes, len) in logs {
         let Ok(log) = Log::open(file(&rt, bytes)) else {
@@ -122,8 +122,10 @@ fn files_that_are_none(rt: HostRuntime) {
         (b"\n\0", 0),
         (b"{}\n", 3),
         (b"{}\n{", 3),
-        (b"{}\nx}\n\0", 3),
-        (b"{}\n{}\n\n\0", 6),
+        (b"{}\n\0", 3),
+        (b" {}\n", 0),
+        (b"{}\nx}\n ", 3),
+        (b"{}\n{}\n\n ", 6),
     ];
     for (bytes, at) in others {
         let Err(OpenFailed { disk, why }) = Log::open(file(&rt, bytes)) else {
@@ -203,7 +205,7 @@ fn a_real_file(rt: HostRuntime) -> Result<(), Fail> {
     equal(
         &rt,
         fs::read(&rt, PATH)?.as_slice(),
-        b"{\"a\":1}\n\0".as_slice(),
+        b"{\"a\":1}\n ".as_slice(),
     );
     let Ok(Files { log: beside, db }) = open(&rt, PATH, Wary) else {
         panic!(&rt; "a file");
@@ -221,7 +223,7 @@ fn a_real_file(rt: HostRuntime) -> Result<(), Fail> {
     equal(
         &rt,
         fs::read(&rt, PATH)?.as_slice(),
-        b"{\"a\":1}\n{\"b\":2}\n\0".as_slice(),
+        b"{\"a\":1}\n{\"b\":2}\n ".as_slice(),
     );
     fs::remove_dir_all(&rt, FOLDER)?;
     Ok(())

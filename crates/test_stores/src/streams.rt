@@ -1,8 +1,9 @@
 // Streams that fail or have no end, and what a program that ends early is told.
 use crate::setup::equal;
 use snap_jobs::{JobOptions, JobsStop, write_jobs_within};
-use snap_script::{Field, FieldRule, Shortage};
+use snap_script::{Field, FieldRule};
 use snap_session::{RunOptions, Stop, replay, replay_within};
+use std::alloc::AllocError;
 use std::io;
 use std::io::BufWriter;
 
@@ -108,7 +109,7 @@ fn streams_that_fail(rt: HostRuntime) {
 // contracts.
 #[test]
 fn streams_without_end(rt: HostRuntime) {
-    let memory = Stop::OutOfMemory(Shortage::Library).status();
+    let memory = Stop::from(AllocError).status();
     let open = JobsStop::NotClosed.status();
     let lacking = JobsStop::WantOfMemory { jobs: 1, all: 2 }.status();
     prove!(memory == 4 && open == 5 && lacking == 4);

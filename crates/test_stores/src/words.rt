@@ -2,7 +2,7 @@
 use crate::setup::says;
 use snap_call::Refusal;
 use snap_jobs::JobsStop;
-use snap_script::{Fault, Field, Shortage};
+use snap_script::{Fault, Field};
 use snap_session::{LineFault, Stop};
 use std::alloc::AllocError;
 
@@ -40,12 +40,7 @@ fn errors_are_printed(rt: HostRuntime) {
         cause: Fault::BadField(Field::Namespace, None),
     };
     says(&rt, alloc, &Stop::Line(fault), "line 12: bad field ns");
-    says(
-        &rt,
-        alloc,
-        &Stop::OutOfMemory(Shortage::Library),
-        "want of memory",
-    );
+    says(&rt, alloc, &Stop::from(AllocError), "want of memory");
     says(&rt, alloc, &JobsStop::NotClosed, "not closed");
     let lacking = JobsStop::WantOfMemory { jobs: 3, all: 10 };
     says(&rt, alloc, &lacking, "want of memory: 3 of 10 jobs");

@@ -1,4 +1,5 @@
-use Rattle.std.proofs.Common.{None, Some}
+use Rattle.std.proofs.Common.{None, Some, codes, ◌∙◌}
+use Rattle.clap.proofs.WalkLemmas.{first_value-rows}
 use Rattle.clap.specs.Words.{found_of, rows_of, subcommand_rows_of}
 use Rattle.snap_replay.specs.Words.{IsAsked}
 use Rattle.snap_replay.specs.declared.Task.TheVariants.{Run, Serve, Writers}
@@ -17,8 +18,10 @@ pub returns-in-serve : goal.returns-in-serve
 returns-in-serve c =
     let name = c.in_ok-name.name.now in
     let rows = rows_of (found_of c.in_ok-name.own.now) in
-    let asked : IsAsked (subcommand_rows_of c.args.matches.now) (Some Serve) = found_is c.args.matches.now name rows (Some Serve) c.in_ok-name.ensures.name c.in_ok-name.ensures.rows (asks_serve name rows c.in-serve.is) in
-    record { asked = asked; task = asked_task (subcommand_rows_of c.args.matches.now) (Some Serve) asked }
+    let task = Some (Serve c.get_str.result) in
+    let asked : IsAsked (subcommand_rows_of c.args.matches.now) task = found_is c.args.matches.now name rows task c.in_ok-name.ensures.name c.in_ok-name.ensures.rows
+    (asks_serve name rows task c.in-serve.is (c.get_str.ensures ∙ first_value-rows (found_of c.in_ok-name.own.now) (codes "log"))) in
+    record { asked = asked; task = asked_task (subcommand_rows_of c.args.matches.now) task asked }
 
 pub returns-in_default : goal.returns-in_default
 returns-in_default c =

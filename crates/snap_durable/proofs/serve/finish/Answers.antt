@@ -1,27 +1,15 @@
-use Rattle.std.proofs.Common.{inl, inr, refl, ◌++◌, [], sym, subst, ap}
-use Rattle.snap_log.specs.Log.{text_in, Keeps}
-use Rattle.snap_log.proofs.GateLaws.{left_stands}
-use Rattle.snap_durable.specs.Served.{AreAnswered}
-use Rattle.snap_durable.proofs.CameLaws.{answers_none, same_text}
+use Rattle.std.proofs.Common.{inl, inr, refl, [], ◌∷◌}
+use Rattle.snap_durable.proofs.CameLaws.{if_ok}
+use Rattle.snap_durable.proofs.PartLaws.{went_none}
 use Rattle.snap_durable.proofs.serve.finish.Goals as goal
 
 pub returns-then-not-has_held-clause-ok : goal.returns-then-not-has_held-clause-ok
-returns-then-not-has_held-clause-ok g c = λ e. record {
+returns-then-not-has_held-clause-ok g c = record {
   last = [];
   is = inl refl;
-  answers = subst (λ l. AreAnswered g.T.TakeLine.effect c.args.taker.now l c.args.taker.now (g.W.Write.contents c.args.output.now) (g.W.Write.contents c.args.output.now)) (sym (ap (λ s. s.whole) e)) (answers_none g.T.TakeLine.effect c.args.taker.now (g.W.Write.contents c.args.output.now));
-  clean = λ clean. clean;
-  kept = λ clean. subst (λ k. Keeps c.args.log (text_in c.args.log ++ k)) (sym (ap (λ s. s.changes) e)) (same_text g.T.TakeLine.effect g.C.ChangeTest.changes c.args.log clean);
+  end = c.args.batch.now;
+  went = went_none g.T.TakeLine.effect g.T.KeepLine.changes g.T.KeepLine.keeping g.T.KeepLine.settled c.args.taker.now c.args.batch.now c.args.batch.now c.args.log (g.W.Write.contents c.args.output.now) [] refl c.requires.none;
 }
-
-pub returns-then-not-has_held-clause-crash : goal.returns-then-not-has_held-clause-crash
-returns-then-not-has_held-clause-crash g c = λ clean f left. inl (left_stands _ _ _ (c.args.log.kept clean) f left)
 
 pub returns-clause-ok : goal.returns-clause-ok
-returns-clause-ok g c = λ e. record {
-  last = _;
-  is = inr refl;
-  answers = c.in_ok-log.ensures.answered;
-  clean = c.in_ok-log.ensures.clean;
-  kept = c.in_ok-log.ensures.kept;
-}
+returns-clause-ok g c = if_ok c.take_part.result (λ log_new went. record { last = 10 ∷ []; is = inr refl; end = c.take_part.new.batch; went = went }) c.take_part.ensures.went

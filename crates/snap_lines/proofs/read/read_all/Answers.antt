@@ -2,7 +2,6 @@ use Rattle.std.proofs.Common.{ℕ, ◌<◌, [], length, take, None, sym, arith, 
 use Rattle.std.specs.Io.KnownBytes.{Consumes, IsAtEnd}
 use Rattle.std.proofs.lemmas.Result.{err_from_is_err_and}
 use Rattle.snap_path.specs.Memory.{no_memory}
-use Rattle.snap_script.specs.declared.fault.Shortage.TheVariants.{Allocator}
 use Rattle.snap_lines.specs.declared.stop.Stop.TheVariants.{OutOfMemory}
 use Rattle.snap_lines.proofs.TranscriptLaws.{on_ok, if_err, err_is}
 use Rattle.snap_lines.proofs.ReadLaws.{Reading, reading_end, reading_value, reading_none, reading_more, reading_stopped, reading_stopped_at_end, reading_failed, reading_not_begun}
@@ -46,8 +45,8 @@ reads-init g c =
 pub returns-in_err-chunk-clause-stopped : goal.returns-in_err-chunk-clause-stopped
 returns-in_err-chunk-clause-stopped g c =
     let p = err_from_is_err_and c.from_residual.result c.from_residual.ensures.1 in
-    err_is _ c.from_residual.result p.0 (OutOfMemory (Allocator no_memory)) p.1 (cc p.2)
-    (reading_not_begun c.args.most g.T.TakeLine.effect c.args.taker.now (Allocator no_memory) (g.R.Read.remaining c.args.input.now) (g.R.Read.remaining c.args.input.now) (g.W.Write.contents c.args.output.now))
+    err_is _ c.from_residual.result p.0 (OutOfMemory no_memory) p.1 (cc p.2)
+    (reading_not_begun c.args.most g.T.TakeLine.effect c.args.taker.now no_memory (g.R.Read.remaining c.args.input.now) (g.R.Read.remaining c.args.input.now) (g.W.Write.contents c.args.output.now))
 
 pub returns-in_err-take_read-in-Ok-clause-stopped : goal.returns-in_err-take_read-in-Ok-clause-stopped
 returns-in_err-take_read-in-Ok-clause-stopped g c =

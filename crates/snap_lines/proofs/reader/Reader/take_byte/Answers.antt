@@ -4,7 +4,6 @@ use Rattle.std.proofs.lemmas.Bool.{ne_eqb}
 use Rattle.std.proofs.lemmas.Result.{err_from_is_err_and}
 use Rattle.snap_path.specs.Memory.{no_memory}
 use Rattle.snap_script.specs.declared.fault.Fault.TheVariants.{TooLong}
-use Rattle.snap_script.specs.declared.fault.Shortage.TheVariants.{Allocator}
 use Rattle.snap_lines.specs.Lines.{is_open}
 use Rattle.snap_script.specs.Lines.{max_line}
 use Rattle.snap_lines.specs.Transcripts.{next_line}
@@ -57,4 +56,4 @@ returns-then-is_some-clause-err g c =
 pub returns-in_err-push-clause-err : goal.returns-in_err-push-clause-err
 returns-in_err-push-clause-err g c =
     let p = err_from_is_err_and c.from_residual.result c.from_residual.ensures.1 in
-    err_is _ c.from_residual.result p.0 (OutOfMemory (Allocator no_memory)) p.1 (cc p.2) (stops_before g.T.TakeLine.effect (within c.args.self.now c.args.taker.now) (c.args.b ∷ []) (Allocator no_memory) _ _ refl)
+    err_is _ c.from_residual.result p.0 (OutOfMemory no_memory) p.1 (cc p.2) (stops_before g.T.TakeLine.effect (within c.args.self.now c.args.taker.now) (c.args.b ∷ []) no_memory _ _ refl)

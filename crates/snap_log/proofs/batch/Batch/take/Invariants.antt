@@ -3,4 +3,4 @@ use Rattle.snap_log.specs.Batches.{batched}
 use Rattle.snap_log.proofs.batch.Batch.take.Given as goal
 
 abbrev pub invariant-loop-b : goal.invariant-loop-b
-invariant-loop-b g l = batched g.C.ChangeTest.changes l.self (drop l.b-index l.bytes) ≡ batched g.C.ChangeTest.changes l.initial.self l.bytes
+invariant-loop-b l = batched l.self (drop l.b-index l.bytes) ≡ batched l.initial.self l.bytes

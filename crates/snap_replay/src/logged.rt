@@ -1,0 +1,110 @@
+// `serve` over a log in a file.
+ghost use Rattle.std.specs.Prelude.{◌≡◌};
+ghost use Rattle.snap_replay.specs.Logged.{log_status_of};
+
+use snap_durable::{Ended, ReplayError, Unserved, serve_log};
+use snap_lines::Stop;
+use snap_log::{Log, OpenError};
+use sqlite_disk::{Disk, Files};
+use sqlite_std_file::{OpenError as FileError, Wary, open};
+use std::io::BufWriter;
+use std::{fmt, io};
+
+// Why a server over a log ended before the end of its input.
+#[derive(Drop)]
+pub(crate) enum LogStop {
+    // Its lines' run stopped.
+    Lines(Stop),
+    // A library was refused memory, and keeps the allocator's error to itself.
+    WantOfMemory,
+    // Another process has the log.
+    Busy,
+    // A call of the file failed.
+    Io(io::Error),
+    // The file is no log, or a damaged one.
+    Refused(OpenError),
+    // A sync failed, so that it is unknown whether the log has the lines of the last read.
+    Unknown(io::Error),
+}
+
+impl LogStop {
+    // The status of a program that ends with it.
+    pub(crate) fn status(&self) -> u8
+        ensures { result ≡ log_status_of self.now }
+    {
+        match self {
+            LogStop::Lines(stop) => stop.status(),
+            LogStop::WantOfMemory => 4,
+            LogStop::Busy => 6,
+            LogStop::Io(_) | LogStop::Refused(_) => 7,
+            LogStop::Unknown(_) => 8,
+        }
+    }
+}
+
+impl fmt::Display for LogStop {
+    fn fmt<W: fmt::Write>(&self, f: &mut fmt::Formatter<W>) -> fmt::Result {
+        match self {
+            LogStop::Lines(stop) => write!(f, "{stop}"),
+            LogStop::WantOfMemory => f.write_str("want of memory"),
+            LogStop::Busy => f.write_str("another process has the log"),
+            LogStop::Io(error) => write!(f, "the log failed: {error}"),
+            LogStop::Refused(why) => write!(f, "{why}"),
+            LogStop::Unknown(error) => write!(
+                f,
+                "a sync of the log failed, start again to know what it has: {error}"
+            ),
+        }
+    }
+}
+
+// A call of the file failed, or memory was refused on its way.
+fn file_stop(error: io::Error) -> LogStop {
+    if error.kind() == io::ErrorKind::OutOfMemory {
+        LogStop::WantOfMemory
+    } else {
+        LogStop::Io(error)
+    }
+}
+
+fn lines_over<D: Disk + Drop, T: Input + Print + AllocGlobal>(
+    rt: &T,
+    log: Log<D>,
+) -> Result<(), LogStop> {
+    let alloc = rt.alloc();
+    let mut input = rt.reader();
+    let Ok(mut output) = BufWriter::new(alloc, io::writer(rt)) else {
+        return Err(LogStop::WantOfMemory);
+    };
+    match serve_log(alloc, log, &mut input, &mut output) {
+        Ok(_) => Ok(()),
+        Err(Unserved::Replay(_, error)) => match error {
+            ReplayError::Io(error) => Err(file_stop(error)),
+            ReplayError::Stopped(stop) => Err(LogStop::Lines(stop)),
+        },
+        Err(Unserved::Ended(ended)) => match ended {
+            Ended::Stopped(_, stop) => Err(LogStop::Lines(stop)),
+            Ended::Unknown(_, error) => Err(LogStop::Unknown(error)),
+        },
+    }
+}
+
+// Serves the lines on standard input over the log in a file.
+pub(crate) fn serve_file(rt: &HostRuntime, path: &str) -> Result<(), LogStop> {
+    let Files { log: _, db } = match open(rt, path, Wary) {
+        Ok(files) => files,
+        Err(FileError::Busy) => return Err(LogStop::Busy),
+        Err(FileError::OutOfMemory) => {
+            return Err(LogStop::WantOfMemory);
+        }
+        Err(FileError::HotJournal) => return Err(LogStop::Refused(OpenError::NotALog)),
+        Err(FileError::Io(error)) => return Err(file_stop(error)),
+    };
+    match Log::open(db) {
+        Ok(log) => lines_over(rt, log),
+        Err(failed) => match failed.why {
+            OpenError::Io(error) => Err(file_stop(error)),
+            why => Err(LogStop::Refused(why)),
+        },
+    }
+}

@@ -1,0 +1,58 @@
+-- What a server answers, line for line, where lines that change its store are kept first; cited by the public clauses of `KeptServer`.
+use Rattle.std.specs.Prelude.{List, ℕ, Bool, true, false, not, ◌||◌, if◌then◌else◌, is_some, Result, Ok, Err}
+use Rattle.snap_script.specs.Changes.{changes_store}
+use Rattle.snap_script.specs.Lines.{line_of}
+use Rattle.snap_script.specs.Requests.{id_of}
+use Rattle.snap_script.specs.declared.fault.Fault.{Fault}
+use Rattle.snap_script.specs.declared.line.Line.{Line}
+use Rattle.snap_script.specs.declared.line.Line.TheVariants.{Empty, Command}
+use Rattle.snap_script.specs.declared.response.Response.{Response}
+use Rattle.snap_script.specs.declared.response.Response.TheVariants.{NotKept}
+use Rattle.snap_script.specs.declared.unknown.FieldRule.TheVariants.{KnownAndId}
+use Rattle.snap_lines.specs.Effects.{Effect, Effects}
+use Rattle.snap_lines.specs.Transcripts.{next_line}
+use Rattle.snap_session.specs.Opened.{ScriptValue}
+use Rattle.snap_session.specs.Service.{ServerValue, effect_responded, idle, responded}
+
+-- a server, and whether lines that change its store are carried out: where they can't be kept, they aren't
+pub record KeptValue : Type 0 where
+  pub server : ServerValue
+  pub keeps : Bool
+
+-- before the first line
+abbrev pub idle_kept : KeptValue
+idle_kept = record { server = idle; keeps = true }
+
+-- the same, and from now on such lines are carried out, or they aren't
+abbrev pub kept_so : Bool → KeptValue → KeptValue
+kept_so keeps v = record { server = v.server; keeps = keeps }
+
+-- the same, and the next line is the first
+abbrev pub counted_anew : KeptValue → KeptValue
+counted_anew v = record { server = record { script = v.server.script; lines = 0 }; keeps = v.keeps }
+
+-- a store stands, and stands for good
+abbrev pub has_store : KeptValue → Bool
+has_store v = is_some v.server.script.store
+
+-- what was read of a line is a command that may change a store, or opens one
+abbrev pub is_changing : Result Line Fault → Bool
+is_changing (Ok (Command session command)) = changes_store command
+is_changing (Ok Empty) = false
+is_changing (Err fault) = false
+
+-- the same of the bytes of a line
+abbrev pub would_change : KeptValue → List ℕ → Bool
+would_change v bytes = is_changing (line_of KnownAndId (is_some v.server.script.store) bytes)
+
+-- what was read of the next line, and what it makes of the script: as of any server, or nothing, where it changes one and such lines aren't carried out
+abbrev pub responded_kept : KeptValue → Result Line Fault → ScriptValue × Response
+responded_kept v line = if v.keeps || not (is_changing line) then responded v.server.script (next_line v.server.lines) line else (v.server.script, NotKept)
+
+-- the effect on the server, with the same flag
+abbrev pub effect_beside : Bool → Effect ServerValue → Effect KeptValue
+effect_beside keeps e = record { value = record { server = e.value; keeps = keeps }; text = e.text }
+
+-- what the bytes of a line do, which has no fault
+unfoldable pub served_kept : Effects KeptValue
+served_kept v bytes = Ok (effect_beside v.keeps (effect_responded (next_line v.server.lines) (id_of bytes) (responded_kept v (line_of KnownAndId (is_some v.server.script.store) bytes))))
