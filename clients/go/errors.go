@@ -3,17 +3,22 @@ package pibroulez
 import (
 	"errors"
 	"fmt"
+	"syscall"
 )
 
 // ErrDied is the error of each call once the process has ended. The error tells how, too: errors.As gives the
-// *exec.ExitError of a process that has ended itself or was killed, and errors.Is tells why a log wasn't written, as
-// syscall.ENOSPC.
+// *exec.ExitError of a process that has ended itself or was killed.
 var ErrDied = errors.New("the process has ended")
+
+// ErrLogFailed is the error, beside ErrDied, of each call once a sync of the log has failed. Whether the log has the calls
+// that waited is unknown: Open has the store back that it tells.
+var ErrLogFailed = errors.New("a sync of the log failed")
 
 // ErrClosed is the error of each call once the store is closed.
 var ErrClosed = errors.New("the store is closed")
 
-// ErrNotText is the error of a call with a text that is not UTF-8, at any depth of its fields. Nothing is sent.
+// ErrNotText is the error of a call with a text that is not UTF-8, at any depth of its fields, and of a log whose path is
+// not. Nothing is sent.
 var ErrNotText = errors.New("a text is not UTF-8")
 
 // ErrOption is the error of a call with an option that it doesn't have. Nothing is sent.
@@ -21,6 +26,9 @@ var ErrOption = errors.New("the call doesn't have this option")
 
 // ErrReserved is the error of a Request with a field `do` or `id`, which the client gives. Nothing is sent.
 var ErrReserved = errors.New("the client gives this field")
+
+// ErrNotOfSocket is the error of a Config with a socket and another field.
+var ErrNotOfSocket = errors.New("a store behind a socket doesn't have this field")
 
 // A Reason is a refusal's name. errors.Is tells whether an error is a refusal of this name, and errors.As with
 // a *Refusal what else it tells.
@@ -71,6 +79,21 @@ const (
 	ErrNoHand Reason = "NoHand"
 	// ErrStillOut: a snapshot is active, so no new round begins.
 	ErrStillOut Reason = "StillOut"
+	// ErrNotKept: the log can't keep the call, as on a full disk. Nothing was changed: make the call again once there is
+	// room. Calls that are read together are kept together or not at all. No call is made again by itself.
+	ErrNotKept Reason = "NotKept"
+)
+
+// Refusals of a daemon, which hands on the lines of others. The store has not seen the line.
+const (
+	// ErrNotAllowed: the caller's role may not make this call.
+	ErrNotAllowed Reason = "NotAllowed"
+	// ErrNoSpace: the daemon's log has no room for the call. It is syscall.ENOSPC too.
+	ErrNoSpace Reason = "NoSpace"
+	// ErrTooManyConnections: the caller's user has as many connections as one may have. The connection is ended.
+	ErrTooManyConnections Reason = "TooManyConnections"
+	// ErrLateLine: a line had no end for as long as the daemon waits. The connection is ended.
+	ErrLateLine Reason = "LateLine"
 )
 
 // Errors of files. A path at which nothing is seen is ErrNotFound.
@@ -102,18 +125,29 @@ const (
 // A Refusal is the answer to a call that the store doesn't grant.
 type Refusal struct {
 	Reason Reason `json:"error"`
-	// From is "book", "world", or "file" for an error of a file.
+	// From is "book", "world", "file" for an error of a file, or "log", and for a refusal of a daemon "door" or "cluster".
 	From string `json:"from"`
 	// Free is what the namespace has free. ErrOverLimit alone tells it.
 	Free Usage `json:"free"`
 	// Field is the first malformed field of `open`, where a store is refused for it, and else empty.
 	Field string `json:"field"`
+	// Words say why a daemon's cluster has no room, and who has some, or are empty.
+	Words string `json:"words"`
 }
 
-func (r *Refusal) Error() string { return fmt.Sprintf("%s (from %s)", r.Reason, r.From) }
+func (r *Refusal) Error() string {
+	words := fmt.Sprintf("%s (from %s)", r.Reason, r.From)
+	if r.Words != "" {
+		words += ": " + r.Words
+	}
+	return words
+}
 
 // Unwrap is the refusal's name.
 func (r *Refusal) Unwrap() error { return r.Reason }
+
+// Is says that a daemon's ErrNoSpace is the system's error too, as that of a log of the client's own.
+func (r *Refusal) Is(target error) bool { return r.Reason == ErrNoSpace && target == syscall.ENOSPC }
 
 // What has ended the process, as an ErrDied.
 type died struct{ cause error }
@@ -123,6 +157,18 @@ func (d *died) Error() string { return fmt.Sprintf("%v: %v", ErrDied, d.cause) }
 func (d *died) Is(target error) bool { return target == ErrDied }
 
 func (d *died) Unwrap() error { return d.cause }
+
+// What has ended a process whose log failed, as an ErrLogFailed.
+type failedLog struct {
+	exit  error
+	words string
+}
+
+func (f *failedLog) Error() string { return fmt.Sprintf("%v: %s", f.exit, f.words) }
+
+func (f *failedLog) Is(target error) bool { return target == ErrLogFailed }
+
+func (f *failedLog) Unwrap() error { return f.exit }
 
 // A Fault is the answer to a line that is no command. Nothing has changed.
 type Fault struct {

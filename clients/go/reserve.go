@@ -8,8 +8,32 @@ import (
 )
 
 // How many bytes of the disk a log holds beyond its end (fallocate(2)), so that a full disk still takes the lines of
-// calls that free something. The file's size is that of its lines.
+// calls that free something. Neither the file's size nor its bytes change by it.
 const reserveSize = 256 << 10
+
+// The most bytes that a line has in the log beside those that it is given here: its id, and the blank behind the lines.
+const lineMore = 32
+
+// Commands that change nothing and make no entry in the journal. They need no room.
+var isLookup = map[string]bool{
+	"look": true, "list": true, "read": true, "resolve": true, "du": true, "quota": true, "leases": true, "tree": true,
+	"diff": true, "journal": true, "report": true,
+}
+
+// Commands that make an entry unless they are quiet.
+var isQuestion = map[string]bool{"stat": true, "usage": true, "mounts": true, "walk": true}
+
+// Whether a command changes nothing and makes no entry: a lookup, a sweep that is tried, a quiet question, or the usage
+// of a chain.
+func makesNoEntry(do string, command fields) bool {
+	switch {
+	case do == "sweep":
+		return command["try"] == true
+	case isQuestion[do]:
+		return command["quiet"] == true || do == "usage" && command["chain"] == true
+	}
+	return isLookup[do]
+}
 
 // Commands whose lines may be in the reserve: those that free something, and those that begin a round.
 var mayUseReserve = map[string]bool{
@@ -20,15 +44,18 @@ var mayUseReserve = map[string]bool{
 // The part of the disk that a log has.
 type reserve struct {
 	mutex sync.Mutex
-	// How many bytes of lines the file has, where its part of the disk ends, and how many bytes are in lines that were
-	// sent and aren't kept yet.
+	// How many bytes the file has, where its part of the disk ends, and how many bytes are in lines that were sent and
+	// aren't answered yet.
 	size, end, coming int64
-	// Whether the file system reserves nothing. A line for which there is no room then ends the store.
+	// Whether the file system reserves nothing. A line for which there is no room is then refused by the process.
 	isNone bool
 }
 
 // Has the reserve behind the lines, where the disk has room for it.
 func (l *log) hold() {
+	if l == nil {
+		return
+	}
 	l.mutex.Lock()
 	defer l.mutex.Unlock()
 	_ = l.extend(reserveSize)
@@ -42,7 +69,7 @@ func (l *log) admit(c *call) error {
 	}
 	l.mutex.Lock()
 	defer l.mutex.Unlock()
-	bytes := int64(len(c.line))
+	bytes := c.room()
 	if err := l.extend(l.coming + bytes + reserveSize); err != nil && !mayUseReserve[c.do] {
 		return &fs.PathError{Op: "extend log", Path: l.path, Err: err}
 	}
@@ -50,23 +77,34 @@ func (l *log) admit(c *call) error {
 	return nil
 }
 
-// The line of an admitted call isn't coming any more, since it is kept, or no log has it.
+// How many bytes of the log the line of a call may take.
+func (c *call) room() int64 { return int64(len(c.line)) + lineMore }
+
+// The line of an admitted call isn't coming any more, since it was answered or not sent.
 func (l *log) release(c *call) {
 	if l == nil || c.isLookup {
 		return
 	}
 	l.mutex.Lock()
 	defer l.mutex.Unlock()
-	l.coming -= int64(len(c.line))
+	l.coming -= c.room()
 }
 
 // Has so many bytes of the disk behind the lines, and twice the reserve more where there is so much; where there is
 // less than the former, what there is.
 func (l *log) extend(bytes int64) error {
-	if l.isNone || l.size+bytes <= l.end {
+	if l.isNone {
 		return nil
 	}
-	err := l.allocate(bytes + 2*reserveSize)
+	status, err := l.file.Stat()
+	if err != nil {
+		// The store has ended, which the call is told.
+		return nil
+	}
+	if l.size = status.Size(); l.size+bytes <= l.end {
+		return nil
+	}
+	err = l.allocate(bytes + 2*reserveSize)
 	if isFull(err) {
 		err = l.allocate(bytes)
 	}

@@ -5,10 +5,11 @@
 // place in the order, so no call waits for the answer of another. Where a call's context ends, the call returns the
 // context's error; the process may still carry it out, and its answer is dropped.
 //
-// The process keeps all in memory, so nothing outlives it but what a log keeps: see Config.Log and Open. A call whose
-// line the disk of the log has no room for is syscall.ENOSPC, or syscall.EDQUOT, and isn't sent; the store goes on. A
-// log holds some of the disk for the calls that free something: discard, remove, sweep, trim, lease_drop, lease_release,
-// reopen and roll. Calls that change nothing and make no entry have no line in it.
+// The process keeps all in memory, so nothing outlives it but what a log keeps: see Config.Log and Open. The process has
+// each call that changes something on the disk before it answers it. A call whose line the disk of the log has no room for
+// is syscall.ENOSPC, or syscall.EDQUOT, and isn't sent; the store goes on. A log holds some of the disk for the calls that
+// free something: discard, remove, sweep, trim, lease_drop, lease_release, reopen and roll. Calls that change nothing and
+// make no entry have no line in it. What the process can't keep though it was sent is ErrNotKept.
 package pibroulez
 
 import (
@@ -20,12 +21,10 @@ import (
 	"fmt"
 	"io"
 	"io/fs"
-	"os/exec"
+	"os"
 	"sort"
-	"strings"
 	"sync"
 	"sync/atomic"
-	"syscall"
 	"time"
 	"unicode/utf8"
 )
@@ -47,15 +46,18 @@ type Config struct {
 	Slots uint64
 	// LayerInodes is the most inodes of each layer that is made, or the default, 65,536, where it is 0.
 	LayerInodes uint64
-	// Log is the path of a file that keeps the calls, or empty for none. For New it must not have lines yet.
+	// Log is the path of a file in which the process keeps the calls, or empty for none. For New it must have no store yet.
+	// An empty file of this name and `-wal` more is made beside it.
 	Log string
+	// Socket is the path at which a daemon has a store that it shares, or empty for a store of this client's own. No other
+	// field is given with it: the daemon has opened the store, keeps its log and begins its rounds.
+	Socket string
 }
 
-// A Store is a store that a process of its own keeps.
+// A Store is a store that a process of its own keeps, or a daemon behind a socket: see Config.Socket.
 type Store struct {
-	process *exec.Cmd
-	words   *bytes.Buffer
-	log     *log
+	peer peer
+	log  *log
 
 	// The callers hand their calls to the writer, which hands each to the reader and sends it.
 	calls chan *call
@@ -65,10 +67,9 @@ type Store struct {
 
 	closing chan struct{}
 	close   sync.Once
-	// How long Close waits for an answer, how many have come, and whether one is being kept.
+	// How long Close waits for an answer, and how many have come.
 	patience time.Duration
 	answered atomic.Uint64
-	keeping  atomic.Bool
 	// Whether the process was killed since none came.
 	stuck atomic.Bool
 
@@ -95,29 +96,21 @@ type fields map[string]any
 
 // New starts the process and opens a store, and a log where the configuration names one.
 //
-// The error is a *Refusal where the store is refused, fs.ErrExist where the log has lines, a *BadLog where the file is
-// another's, and syscall.EWOULDBLOCK where another process has the log. With an error a file that was there is as it
-// was, unless the process has ended after its first line.
+// With Config.Socket it connects with a daemon in place of that: the error is ErrNotOfSocket, or that of the connection.
+// Else it is a *Refusal where the store is refused, fs.ErrExist where the log has a store, a *BadLog where the file is
+// another's, and syscall.EWOULDBLOCK where another process has the log. With an error a file that has text is as it was;
+// a log without a line may be left, on which a store can be opened, and one with it where the context has ended.
 func New(ctx context.Context, config Config) (*Store, error) {
-	var lines *log
-	if config.Log != "" {
-		var err error
-		if lines, err = createLog(config.Log); err != nil {
-			return nil, err
+	return config.begin(ctx, func(store *Store, has bool) error {
+		if has {
+			return &fs.PathError{Op: "create log", Path: config.Log, Err: fs.ErrExist}
 		}
-	}
-	store, input, output, err := start(config.Program, lines)
-	if err == nil {
-		go store.write(input)
-		go store.read(output)
-		if err = store.call(ctx, "open", config.fields(), nil, nil); err == nil {
-			return store, nil
-		}
-		store.process.Process.Kill()
-		store.Close()
-	}
-	lines.abandon()
-	return nil, err
+		return store.open(ctx, config)
+	})
+}
+
+func (s *Store) open(ctx context.Context, config Config) error {
+	return s.call(ctx, "open", config.fields(), nil, nil)
 }
 
 func (c Config) fields() fields {
@@ -141,71 +134,68 @@ func (c Config) fields() fields {
 
 // Open starts the process and has the store back that a log tells. The store goes on with the log.
 //
-// A last line without its line feed is cut off once all others are taken: its call wasn't answered. The error is
-// fs.ErrNotExist where there is no log, or none with a whole line, a *BadLog where a line isn't taken or the file is
-// another's, and syscall.EWOULDBLOCK where another process has the log. With an error the file is as it was. The cost
-// is that of all calls in the log.
+// The error is fs.ErrNotExist where there is no log, or none with a line, a *BadLog where the file is no log, and
+// syscall.EWOULDBLOCK where another process has the log: also the one of a client that was killed, until it has seen the
+// end of its input. With an error a file that has text is as it was. The cost is that of all calls in the log.
 func Open(ctx context.Context, program, path string) (*Store, error) {
-	lines, err := openLog(path)
-	if err != nil {
-		return nil, err
-	}
-	return openOn(ctx, program, lines)
+	return begin(ctx, program, path, 0, func(_ *Store, has bool) error {
+		if has {
+			return nil
+		}
+		return &fs.PathError{Op: "open log without a line", Path: path, Err: fs.ErrNotExist}
+	})
 }
 
 // OpenOrNew has the store back that the configuration's log tells, as Open does. Where there is no log, or none with a
-// whole line, it opens a store as New does; all of the configuration but Program and Log is of such a store alone.
+// line, it opens a store as New does; all of the configuration but Program and Log is of such a store alone. With
+// Config.Socket it is New.
 func OpenOrNew(ctx context.Context, config Config) (*Store, error) {
-	lines, err := openLog(config.Log)
-	if errors.Is(err, fs.ErrNotExist) {
-		return New(ctx, config)
+	return config.begin(ctx, func(store *Store, has bool) error {
+		if has {
+			return nil
+		}
+		return store.open(ctx, config)
+	})
+}
+
+// Connects with the daemon where a socket is named, and else starts a process over a log that is made where it isn't there.
+func (c Config) begin(ctx context.Context, first func(store *Store, has bool) error) (*Store, error) {
+	if c.Socket != "" {
+		return connect(ctx, c)
 	}
+	return begin(ctx, c.Program, c.Log, os.O_CREATE, first)
+}
+
+// Starts the process over a log, if one is named, and does what is to be done with it first, which is told whether there
+// is a store.
+func begin(ctx context.Context, program, path string, flags int, first func(store *Store, has bool) error) (*Store, error) {
+	lines, err := findLog(path, flags)
 	if err != nil {
 		return nil, err
 	}
-	return openOn(ctx, config.Program, lines)
-}
-
-func openOn(ctx context.Context, program string, lines *log) (*Store, error) {
-	store, input, output, err := start(program, lines)
+	process, input, output, err := startProcess(program, lines.words())
 	if err != nil {
 		lines.close()
 		return nil, err
 	}
-	err = store.replay(ctx, input, output)
+	store := storeOf(process, lines)
+	store.run(input, output)
+	has, err := store.hasStore(ctx)
 	if err == nil {
-		err = lines.cut()
+		err = first(store, has)
 	}
 	if err != nil {
-		store.end(err, true)
+		store.peer.kill()
+		store.Close()
 		return nil, err
 	}
 	lines.hold()
-	go store.write(input)
-	go store.read(output)
 	return store, nil
 }
 
-func start(program string, lines *log) (*Store, io.WriteCloser, *bufio.Reader, error) {
-	process := exec.Command(program, "serve")
-	// In a group of its own, so that an interrupt at a terminal reaches the client alone.
-	process.SysProcAttr = &syscall.SysProcAttr{Setpgid: true}
-	words := new(bytes.Buffer)
-	process.Stderr = words
-	input, err := process.StdinPipe()
-	if err != nil {
-		return nil, nil, nil, err
-	}
-	output, err := process.StdoutPipe()
-	if err != nil {
-		return nil, nil, nil, err
-	}
-	if err := process.Start(); err != nil {
-		return nil, nil, nil, err
-	}
-	store := &Store{
-		process: process,
-		words:   words,
+func storeOf(peer peer, lines *log) *Store {
+	return &Store{
+		peer:    peer,
 		log:     lines,
 		calls:   make(chan *call),
 		sent:    make(chan *call, maxSent),
@@ -215,13 +205,18 @@ func start(program string, lines *log) (*Store, io.WriteCloser, *bufio.Reader, e
 
 		patience: patience,
 	}
-	return store, input, bufio.NewReader(output), nil
+}
+
+// Has the calls written and their answers read from now on.
+func (s *Store) run(input io.WriteCloser, output io.Reader) {
+	go s.write(input)
+	go s.read(bufio.NewReader(output))
 }
 
 // Close ends the process, once it has answered the calls that were sent. Later calls are ErrClosed.
 //
 // A process that answers nothing for 10 seconds, as a stopped one, is killed: ErrDied. So are the calls that it hasn't
-// answered.
+// answered. Of a daemon the connection is ended in place of the process.
 func (s *Store) Close() error {
 	s.close.Do(func() { close(s.closing) })
 	for {
@@ -234,9 +229,9 @@ func (s *Store) Close() error {
 			return s.err
 		case <-time.After(s.patience):
 		}
-		if s.answered.Load() == answered && !s.keeping.Load() {
+		if s.answered.Load() == answered {
 			s.stuck.Store(true)
-			s.process.Process.Kill()
+			s.peer.kill()
 		}
 	}
 }
@@ -254,8 +249,8 @@ func (s *Store) Err() error {
 	}
 }
 
-// PID is the process.
-func (s *Store) PID() int { return s.process.Process.Pid }
+// PID is the process, or the daemon's.
+func (s *Store) PID() int { return s.peer.pid() }
 
 // Request makes the call of any command, with the fields that docs/SCRIPT.md names, and takes the members of its
 // answer, where answer isn't nil, as json.Unmarshal does. It is ErrReserved where a field is `do` or `id`.
@@ -350,18 +345,30 @@ func isFault(text []byte) bool { return bytes.HasPrefix(text, []byte(`{"fault":`
 
 // Sends a call, and waits for its answer.
 func (s *Store) exchange(ctx context.Context, given call) ([]byte, error) {
-	c := &given
-	c.answer = make(chan []byte, 1)
-	if err := s.Err(); err != nil {
+	if err := s.post(ctx, &given); err != nil {
 		return nil, err
 	}
+	return s.wait(ctx, &given)
+}
+
+// Sends a call.
+func (s *Store) post(ctx context.Context, c *call) error {
+	c.answer = make(chan []byte, 1)
+	if err := s.Err(); err != nil {
+		return err
+	}
 	if err := s.log.admit(c); err != nil {
-		return nil, err
+		return err
 	}
 	if err := s.send(ctx, c); err != nil {
 		s.log.release(c)
-		return nil, err
+		return err
 	}
+	return nil
+}
+
+// Waits for the answer of a call that was sent.
+func (s *Store) wait(ctx context.Context, c *call) ([]byte, error) {
 	select {
 	case text := <-c.answer:
 		return text, nil
@@ -437,15 +444,8 @@ func (s *Store) write(input io.WriteCloser) {
 // The end of the line and of the answer of a call: the member that has its id.
 func (c *call) member() string { return fmt.Sprintf(",\"id\":%d}\n", c.id) }
 
-// An answer that its caller gets once its line is kept.
-type delivery struct {
-	call *call
-	text []byte
-}
-
-// Hands out the answers until the process ends. Answers that come together are kept together.
+// Hands out the answers until the process ends.
 func (s *Store) read(output *bufio.Reader) {
-	var ready []delivery
 	for {
 		text, err := output.ReadBytes('\n')
 		if err != nil {
@@ -456,45 +456,17 @@ func (s *Store) read(output *bufio.Reader) {
 		select {
 		case c = <-s.sent:
 		default:
-			s.end(errors.New("an answer without a call"), true)
+			s.end(unasked(text, "an answer without a call"), true)
 			return
 		}
 		if text, err = c.answerIn(text); err != nil {
 			s.end(err, true)
 			return
 		}
-		ready = append(ready, delivery{c, text})
 		s.answered.Add(1)
-		if hasLine(output) {
-			continue
-		}
-		if err := s.deliver(ready); err != nil {
-			s.end(err, true)
-			return
-		}
-		ready = ready[:0]
+		s.log.release(c)
+		c.answer <- text
 	}
-}
-
-// Keeps the lines of calls, and hands out their answers. Where a line isn't kept, its call and those after it aren't
-// answered: what they tell may not outlive the process.
-func (s *Store) deliver(ready []delivery) error {
-	s.keeping.Store(true)
-	defer s.keeping.Store(false)
-	err := s.log.keep(ready)
-	for _, it := range ready {
-		s.log.release(it.call)
-		if err != nil && it.isKept() {
-			return err
-		}
-		it.call.answer <- it.text
-	}
-	return nil
-}
-
-// Whether a log has the call's line. That of a refused `open` is left out, since there is no store then.
-func (d delivery) isKept() bool {
-	return !d.call.isLookup && !isFault(d.text) && (d.call.do != "open" || refused(d.text) == nil)
 }
 
 // The answer of the call within a response. A line that is too long has no id, and is told as a fault without one.
@@ -506,27 +478,29 @@ func (c *call) answerIn(response []byte) ([]byte, error) {
 	if isFault(response) {
 		return response, nil
 	}
-	return nil, errors.New("an answer to another call")
+	return nil, unasked(response, "an answer to another call")
 }
 
-// Whether a whole line has been read ahead.
-func hasLine(output *bufio.Reader) bool {
-	ahead, _ := output.Peek(output.Buffered())
-	return bytes.IndexByte(ahead, '\n') >= 0
+// What ends a store that gets an answer which nobody has asked for: a refusal is that of a daemon that ends the connection.
+func unasked(text []byte, otherwise string) error {
+	if err := refused(text); err != nil {
+		return err
+	}
+	return errors.New(otherwise)
 }
 
 // Ends the process, at once where it is to be killed, and has all calls from now on answered with the cause.
 func (s *Store) end(cause error, kill bool) {
 	if kill {
-		s.process.Process.Kill()
+		s.peer.kill()
 	}
-	waited := s.process.Wait()
+	waited := s.peer.wait()
 	s.log.close()
 	if cause == nil {
 		cause = s.causeOf(waited)
 	}
 	s.err = cause
-	if !errors.Is(cause, ErrClosed) {
+	if !errors.Is(cause, ErrClosed) && !isNoLog(cause) {
 		s.err = &died{cause}
 	}
 	close(s.ended)
@@ -542,40 +516,15 @@ func (s *Store) causeOf(waited error) error {
 		case <-s.closing:
 			return ErrClosed
 		default:
-			waited = errors.New(s.process.ProcessState.String())
+			waited = s.peer.state()
 		}
 	}
-	if words := strings.TrimSpace(s.words.String()); words != "" {
+	words := s.peer.words()
+	if cause := s.log.cause(waited, words); cause != nil {
+		return cause
+	}
+	if words != "" {
 		return fmt.Errorf("%w: %s", waited, words)
 	}
 	return waited
-}
-
-// Sends the lines of the log, and reads their answers beside that.
-func (s *Store) replay(ctx context.Context, input io.Writer, output *bufio.Reader) error {
-	done := make(chan struct{})
-	defer close(done)
-	go func() {
-		select {
-		case <-ctx.Done():
-			s.process.Process.Kill()
-		case <-done:
-		}
-	}()
-	go io.Copy(input, s.log.reader())
-	for line := uint64(1); line <= s.log.lines; line++ {
-		text, err := output.ReadBytes('\n')
-		if ctx.Err() != nil {
-			return ctx.Err()
-		}
-		if err != nil {
-			return fmt.Errorf("%w at line %d of the log", ErrDied, line)
-		}
-		if err := refused(text); isFault(text) {
-			return &BadLog{s.log.path, line, err.(*Fault).Words}
-		} else if err != nil && line == 1 {
-			return &BadLog{s.log.path, line, err.Error()}
-		}
-	}
-	return nil
 }

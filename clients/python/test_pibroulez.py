@@ -333,10 +333,11 @@ class Commands(unittest.TestCase):
 
 
 class Documents(unittest.TestCase):
-    """What docs/SCRIPT.md has in its section on commands."""
+    """What docs/SCRIPT.md has in its sections on commands and on logs."""
 
     page = (Path(__file__).parents[2] / "docs/SCRIPT.md").read_text(encoding="utf-8")
     text = page.partition("\n## Commands\n")[2].partition("\n## ")[0]
+    log = page.partition("\n### Over a log\n")[2].partition("\n## ")[0]
 
     def test_commands(self) -> None:
         """Each is a method."""
@@ -352,8 +353,10 @@ class Documents(unittest.TestCase):
         self.assertEqual(names & set(dir(builtins)), set())
 
     def test_refusals(self) -> None:
-        """Each is an exception, and no other is."""
-        names = set(re.findall(r"`([A-Z][A-Za-z]+)`", self.text))
+        """Each is an exception, and so is each of a daemon, and no other is."""
+        daemon = (Path(__file__).parents[1] / "go/pibroulezd/README.md").read_text(encoding="utf-8")
+        refusals = daemon.partition("\n## Refusals of the door\n")[2].partition("\n## ")[0]
+        names = set(re.findall(r"`([A-Z][A-Za-z]+)`", self.text + self.log + refusals))
         self.assertEqual(names, {each.__name__ for each in Refused.__subclasses__()})
 
 
@@ -476,7 +479,7 @@ class Errors(unittest.TestCase):
             Fault: ("too long", 2),
             pibroulez.ReservedField: ("id",),
             pibroulez.Died: (4, "want of memory"),
-            pibroulez.LogFailed: (path, OSError(28, "No space left on device")),
+            pibroulez.LogFailed: (path, 8, "a sync of the log failed"),
             pibroulez.BadLog: (path, 1, "first line must be open"),
             pibroulez.Forked: (7,),
         }

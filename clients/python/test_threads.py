@@ -3,6 +3,7 @@ from __future__ import annotations
 
 import contextlib
 import os
+import resource
 import signal
 import subprocess
 import sys
@@ -11,13 +12,22 @@ import threading
 import time
 import types
 import unittest
-import unittest.mock
 from pathlib import Path
 from typing import Callable, Iterator, List, Tuple, Union
 
 import pibroulez
-from pibroulez import Committed, Died, Fault, Forked, LogFailed, Store, Usage
-from stores import PROGRAM, open_store, wait_until
+from pibroulez import Committed, Died, Fault, Forked, LogFailed, NotKept, Store, Usage
+from stores import (
+    PROGRAM,
+    empty_disk,
+    fill_disk,
+    limited_program,
+    log_lines,
+    open_store,
+    store_of,
+    wait_until,
+    watched_program,
+)
 
 Ended = List[Union[object, Exception]]
 # A program that answers the open, and then each line with an id that no call had.
@@ -89,7 +99,7 @@ class InFolder(unittest.TestCase):
         self.log = Path(folder.name) / "log"
 
     def lines(self) -> List[bytes]:
-        return self.log.read_bytes().splitlines()
+        return log_lines(self.log)
 
 
 class Threads(InFolder):
@@ -127,25 +137,24 @@ class Threads(InFolder):
             )
 
     def test_synced_together(self) -> None:
-        """Of calls that are in flight together the lines are synced at once, before any of them is answered."""
-        on_disk: List[bytes] = []
-
-        def sync(file: int) -> None:
-            time.sleep(0.01)
-            on_disk[:] = self.lines()
+        """Calls that are in flight together share their two syncs, and each is in the log when it is answered."""
 
         def calls(n: int) -> None:
-            for i in range(20):
+            for i in range(10):
                 store.prepare("a", f"{n}-{i}", "")
-                self.assertIn(b'{"do":"prepare","ns":"a","key":"%d-%d","parent":""}' % (n, i), on_disk)
+                self.assertIn(b'"key":"%d-%d"' % (n, i), b"".join(self.lines()))
                 store.discard("a", f"{n}-{i}")
 
-        with open_store(log=self.log) as store, unittest.mock.patch("os.fsync", side_effect=sync) as fsync:
+        program = watched_program(self.log.parent)
+        count = self.log.with_name("count")
+        with open_store(log=self.log, program=program) as store:
+            self.log.with_name("slow").touch()
+            before = count.stat().st_size
             threads, ended = started(*(lambda n=n: calls(n) for n in range(8)))
             join(threads)
             self.assertEqual(ended, [None] * 8)
-            self.assertEqual(len(self.lines()), 1 + 2 * 20 * 8)
-            self.assertLessEqual(fsync.call_count, 2 * 20 * 8 / 2)
+            self.assertEqual(len(self.lines()), 1 + 2 * 10 * 8)
+            self.assertLessEqual(count.stat().st_size - before, 2 * 10 * 8)
 
     def test_full_journal_is_rolled_once(self) -> None:
         """Calls that find one journal full begin one round, and each is made. Without the option they are refused."""
@@ -159,9 +168,8 @@ class Threads(InFolder):
                 wait_for_sent(store, 4)
             join(threads)
             self.assertEqual(sorted(ended), [1, 2, 3, 4])
-            self.assertEqual([it for it in self.lines() if b'"roll"' in it], [b'{"do":"roll","journal":12}'])
+            self.assertEqual([b'"journal":12' in it for it in self.lines() if b'"roll"' in it], [True])
             self.assertEqual(store.report().entries, 5)
-
 
     def test_roll_that_does_not_help(self) -> None:
         """A prepare wants two entries, and a round of one has none: the call is made twice, and refused."""
@@ -286,7 +294,7 @@ class Ends(InFolder):
     def test_store_that_nobody_has(self) -> None:
         """Its process ends."""
         store = open_store()
-        process = store._connection._process
+        process = store._connection._peer._process  # type: ignore[attr-defined]
         del store
         wait_until(lambda: process.returncode == 0)
 
@@ -297,7 +305,7 @@ class Ends(InFolder):
         ran = subprocess.run(words, cwd=folder, capture_output=True, text=True, timeout=60)
         self.assertEqual((ran.returncode, ran.stderr), (0, ""))
         self.assertEqual(ran.stdout.split(), [f"name-{n}" for n in range(20)])
-        with Store.from_log(self.log, program=PROGRAM) as store:
+        with store_of(self.log) as store:
             self.assertEqual(len(store.walk("a", kind=pibroulez.Kind.COMMITTED)), 20)
 
 
@@ -354,44 +362,85 @@ class Forks(InFolder):
 
 
 class LogsThatFail(InFolder):
-    """A disk that is full is /dev/full in place of the log."""
-
-    def fill_disk(self, store: Store) -> None:
-        log = store._connection._log
-        assert log
-        full = os.open("/dev/full", os.O_RDWR)
-        os.dup2(full, log._file)
-        os.close(full)
-
-    def ended(self, store: Store) -> None:
-        """The calls that wait, and a later one, are told of the log."""
+    def refused(self, store: Store) -> None:
+        """Calls that change something are refused, and change nothing; others are answered."""
+        before = store.report(), store.tree("a"), self.lines()
         with stopped(store):
             threads, ended = started(*(lambda n=n: store.prepare("a", f"{n}", "") for n in range(4)))
             wait_for_sent(store, 4)
         join(threads)
-        self.assertEqual([type(it) for it in ended], [LogFailed] * 4)
-        with self.assertRaises(LogFailed) as caught:
-            store.report()
-        self.assertEqual(caught.exception.path, os.fspath(self.log))
+        self.assertEqual([(type(it), getattr(it, "source", "")) for it in ended], [(NotKept, "log")] * 4)
+        for call in (lambda: store.discard("a", "k"), store.roll, lambda: store.stat("a", "k", entry=True)):
+            self.assertRaises(NotKept, call)
+        self.assertEqual(store.stat("a", "k").id, 1)
+        self.assertEqual(store.listdir("a", "k", "/"), ())
+        self.assertEqual(store.try_sweep("a", 0).removed, ())
+        self.assertEqual((store.report(), store.tree("a"), self.lines()), before)
 
     def test_full_disk(self) -> None:
-        """What changes nothing is answered; a call whose line isn't kept isn't, and is the last."""
-        with open_store(log=self.log) as store:
+        """What changes nothing is answered; what changes something is refused until there is room again. The store goes
+        on, and can be had back on the full disk."""
+        with open_store(log=self.log, program=limited_program(self.log.parent)) as store:
             store.prepare("a", "k", "")
-            self.fill_disk(store)
-            self.assertEqual(store.stat("a", "k").id, 1)
-            self.assertEqual(store.listdir("a", "k", "/"), ())
-            self.assertEqual(store.try_sweep("a", 0).removed, ())
-            self.ended(store)
-        with Store.from_log(self.log, program=PROGRAM) as store:
-            self.assertEqual([it.name for it in store.walk("a")], ["k"])
+            fill_disk(store, self.log)
+            self.refused(store)
+            empty_disk(store)
+            self.assertEqual(store.prepare("a", "l", "").id, 2)
+            fill_disk(store, self.log)
+            self.refused(store)
+        with store_of(self.log, limited_program(self.log.parent, "ulimit -S -f 0")) as store:
+            self.refused(store)
+            empty_disk(store)
+            self.assertEqual(store.prepare("a", "m", "").id, 3)
+        with store_of(self.log) as store:
+            self.assertEqual([it.name for it in store.walk("a")], ["k", "l", "m"])
+
+    def test_part_of_the_room(self) -> None:
+        """Wherever the disk ends, a call is kept whole or not at all."""
+        with open_store(log=self.log, program=limited_program(self.log.parent)) as store:
+            store.prepare("a", "k", "")
+            room = refused = 0
+            while True:
+                size = len(b"".join(self.lines()))
+                resource.prlimit(store.pid, resource.RLIMIT_FSIZE, (size + room, resource.RLIM_INFINITY))
+                before = store.report(), self.lines()
+                try:
+                    store.update("a", "k", {"x": "1"})
+                    break
+                except NotKept:
+                    self.assertEqual((store.report(), self.lines()), before)
+                room, refused = room + 1, refused + 1
+            self.assertEqual(refused, 1 + len(self.lines()[-1]))
+        with store_of(self.log) as store:
+            self.assertEqual(store.stat("a", "k").labels, {"x": "1"})
 
     def test_failed_sync(self) -> None:
-        with open_store(log=self.log) as store:
-            with unittest.mock.patch("os.fsync", side_effect=OSError(5, "Input/output error")):
-                self.ended(store)
-        with Store.from_log(self.log, program=PROGRAM) as store:
-            self.assertLessEqual(len(store.walk("a")), 4)
+        """The calls that wait, and each later one, are told. The log has those that were read together, or none."""
+        with open_store(log=self.log, program=watched_program(self.log.parent)) as store:
+            store.prepare("a", "k", "")
+            self.log.with_name("fail").touch()
+            self.assertEqual(store.stat("a", "k").id, 1)
+            with stopped(store):
+                threads, ended = started(*(lambda n=n: store.prepare("a", f"{n}", "") for n in range(4)))
+                wait_for_sent(store, 4)
+            join(threads)
+            self.assertEqual([type(it) for it in ended], [LogFailed] * 4)
+            with self.assertRaises(LogFailed) as caught:
+                store.report()
+            self.assertEqual((caught.exception.path, caught.exception.status), (os.fspath(self.log), 8))
+            self.assertIn("a sync of the log failed", caught.exception.words)
+        with store_of(self.log) as store:
+            self.assertLessEqual(len(store.walk("a")), 5)
+
+    def test_new_log_on_a_full_disk(self) -> None:
+        """It is refused, and can be begun there once there is room."""
+        with self.assertRaises(pibroulez.BadLog) as caught:
+            open_store(log=self.log, program=limited_program(self.log.parent, "ulimit -S -f 0"))
+        self.assertIn("File too large", caught.exception.fault)
+        self.log.write_bytes(b"\0")
+        with self.assertRaises(NotKept):
+            open_store(log=self.log, program=limited_program(self.log.parent, "ulimit -S -f 0"))
+        open_store(log=self.log).close()
 
 
 if __name__ == "__main__":

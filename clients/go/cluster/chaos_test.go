@@ -146,7 +146,7 @@ func (w *worker) begin() (err error) {
 		note: func(it event) {
 			if it.Kind == begun {
 				lines, _ := os.ReadFile(log)
-				it.Lines = bytes.Count(lines, []byte("\n"))
+				it.Lines = bytes.Count(linesIn(lines), []byte("\n"))
 			}
 			w.note(chaosNote{event: it})
 		},

@@ -278,7 +278,7 @@ func (n *node) note(it event) {
 		if err != nil {
 			panic(err)
 		}
-		it.Lines = bytes.Count(lines, []byte("\n"))
+		it.Lines = bytes.Count(linesIn(lines), []byte("\n"))
 	}
 	n.notes = append(n.notes, it)
 }

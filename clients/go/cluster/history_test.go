@@ -140,6 +140,19 @@ type logLine struct {
 	isFull bool
 }
 
+// What counts of the bytes of a log: its lines up to the first that doesn't begin with a brace.
+func linesIn(text []byte) []byte {
+	end := 0
+	for end < len(text) && text[end] == '{' {
+		length := bytes.IndexByte(text[end:], '\n') + 1
+		if length == 0 {
+			break
+		}
+		end += length
+	}
+	return text[:end]
+}
+
 // The lines of a log, by the program's own replay, with a question after each. Each line changes its own tenant alone.
 // And all that the store has at the end, or nil where there is no line.
 func linesOf(path string) (lines []logLine, last map[string]pibroulez.Quota, err error) {
@@ -147,7 +160,7 @@ func linesOf(path string) (lines []logLine, last map[string]pibroulez.Quota, err
 	if err != nil {
 		return nil, nil, err
 	}
-	text = text[:bytes.LastIndexByte(text, '\n')+1]
+	text = linesIn(text)
 	if len(text) == 0 {
 		return nil, nil, nil
 	}
@@ -203,7 +216,7 @@ func lastOf(path string) (map[string]pibroulez.Quota, error) {
 	if err != nil {
 		return nil, err
 	}
-	text = text[:bytes.LastIndexByte(text, '\n')+1]
+	text = linesIn(text)
 	if len(text) == 0 {
 		return nil, nil
 	}

@@ -24,7 +24,7 @@ func Namespaces(tenants ...string) (map[string]Usage, error) {
 	}
 	namespaces := map[string]Usage{identityBegin + hex.EncodeToString(bits[:]): {}}
 	for _, it := range tenants {
-		if strings.HasPrefix(it, identityBegin) {
+		if IsIdentity(it) {
 			return nil, fmt.Errorf("%w: tenant %q", ErrNoIdentity, it)
 		}
 		namespaces[it] = Usage{}
@@ -45,6 +45,9 @@ func OpenOrNew(ctx context.Context, config pibroulez.Config, tenants ...string) 
 	}
 	return pibroulez.OpenOrNew(ctx, config)
 }
+
+// IsIdentity says whether a namespace is there for an identity, and is no tenant.
+func IsIdentity(namespace string) bool { return strings.HasPrefix(namespace, identityBegin) }
 
 // The identity of a store, and its tenants.
 func identityOf(quotas map[string]pibroulez.Quota) (string, []string, error) {

@@ -365,7 +365,8 @@ func TestNoRefusalWithRoom(t *testing.T) {
 	w.limit("a", 300, 1000)
 	var nodes []*node
 	for i := 0; i < 4; i++ {
-		nodes = append(nodes, w.node(fmt.Sprint("n", i), func(c *Config) { c.Patience = 30 * time.Second }).settle())
+		// A share of its own, so that how much a node takes doesn't depend on how many others it knows by then.
+		nodes = append(nodes, w.node(fmt.Sprint("n", i), func(c *Config) { c.Patience, c.Share = 30*time.Second, 1 }).settle())
 	}
 	random := rand.New(rand.NewSource(1))
 	charged, waited := uint64(0), uint64(0)

@@ -38,7 +38,7 @@ func (s *Snapshotter) change(ctx context.Context, keys ...string) (context.Conte
 
 // Stat tells a snapshot of any kind.
 func (s *Snapshotter) Stat(ctx context.Context, key string) (snapshots.Info, error) {
-	info, err := s.store.Stat(ctx, namespace, key)
+	info, err := s.store.Stat(ctx, Namespace, key)
 	if err != nil {
 		return snapshots.Info{}, subject{key: key}.classified(err)
 	}
@@ -53,7 +53,7 @@ func (s *Snapshotter) Update(ctx context.Context, info snapshots.Info, fieldpath
 	}
 	defer end()
 	labels := withoutEmpty(info.Labels)
-	updated, err := s.store.Update(ctx, namespace, info.Name, labels, fieldpaths)
+	updated, err := s.store.Update(ctx, Namespace, info.Name, labels, fieldpaths)
 	if err != nil {
 		return snapshots.Info{}, subject{key: info.Name, labels: labels}.classified(err)
 	}
@@ -62,7 +62,7 @@ func (s *Snapshotter) Update(ctx context.Context, info snapshots.Info, fieldpath
 
 // Usage tells what the store charges for a snapshot alone.
 func (s *Snapshotter) Usage(ctx context.Context, key string) (snapshots.Usage, error) {
-	usage, err := s.store.Usage(ctx, namespace, key)
+	usage, err := s.store.Usage(ctx, Namespace, key)
 	if err != nil {
 		return snapshots.Usage{}, subject{key: key}.classified(err)
 	}
@@ -76,7 +76,7 @@ func (s *Snapshotter) Mounts(ctx context.Context, key string) ([]mount.Mount, er
 		return nil, err
 	}
 	defer end()
-	mounts, err := s.store.Mounts(ctx, namespace, key)
+	mounts, err := s.store.Mounts(ctx, Namespace, key)
 	if err == nil {
 		err = s.complete(ctx, key)
 	}
@@ -88,7 +88,7 @@ func (s *Snapshotter) Mounts(ctx context.Context, key string) ([]mount.Mount, er
 
 // Makes the directory of an active snapshot or a view, where a full disk didn't take it before.
 func (s *Snapshotter) complete(ctx context.Context, key string) error {
-	info, err := s.store.Stat(ctx, namespace, key)
+	info, err := s.store.Stat(ctx, Namespace, key)
 	if err != nil {
 		return err
 	}
@@ -97,7 +97,7 @@ func (s *Snapshotter) complete(ctx context.Context, key string) error {
 	}
 	parent := uint64(0)
 	if info.Parent != "" {
-		it, err := s.store.Stat(ctx, namespace, info.Parent)
+		it, err := s.store.Stat(ctx, Namespace, info.Parent)
 		if err != nil {
 			return err
 		}
@@ -141,10 +141,14 @@ func (s *Snapshotter) create(ctx context.Context, kind pibroulez.Kind, key, pare
 // Makes an active snapshot or a view. Its id, and those of its ancestors.
 func (s *Snapshotter) place(ctx context.Context, kind pibroulez.Kind, key, parent string, labels map[string]string) (uint64, []uint64, error) {
 	if kind == pibroulez.KindView {
-		made, err := s.store.View(ctx, namespace, key, parent, pibroulez.WithLabels(labels))
+		made, err := s.store.View(ctx, Namespace, key, parent, pibroulez.WithLabels(labels))
 		return made.ID, made.Chain, err
 	}
-	made, err := s.store.Prepare(ctx, namespace, key, parent, pibroulez.WithLabels(labels))
+	var made pibroulez.Prepared
+	err := s.charge(ctx, func(ctx context.Context) (err error) {
+		made, err = s.store.Prepare(ctx, Namespace, key, parent, pibroulez.WithLabels(labels))
+		return err
+	})
 	return made.ID, made.Chain, err
 }
 
@@ -157,12 +161,12 @@ func (s *Snapshotter) made(ctx context.Context, r record, chain []uint64, kind p
 	if err := s.directories.make(r, parent, kind); err != nil {
 		return nil, err
 	}
-	info, err := s.store.Stat(ctx, namespace, r.Key)
+	info, err := s.store.Stat(ctx, Namespace, r.Key)
 	if err != nil {
 		return nil, err
 	}
 	s.times.of(info)
-	mounts, err := s.store.Mounts(ctx, namespace, r.Key)
+	mounts, err := s.store.Mounts(ctx, Namespace, r.Key)
 	return mountsWith(s.options, mounts), err
 }
 
@@ -179,7 +183,7 @@ func (s *Snapshotter) Commit(ctx context.Context, name, key string, opts ...snap
 	}
 	defer end()
 	about := subject{key: key, name: &name, labels: labels}
-	info, err := s.store.Stat(ctx, namespace, key)
+	info, err := s.store.Stat(ctx, Namespace, key)
 	if err != nil {
 		return about.classified(err)
 	}
@@ -189,7 +193,7 @@ func (s *Snapshotter) Commit(ctx context.Context, name, key string, opts ...snap
 	if err := s.directories.nameIn(info.ID, key, name); err != nil {
 		return err
 	}
-	if _, err := s.store.Commit(ctx, namespace, key, name, pibroulez.WithLabels(labels)); err != nil {
+	if _, err := s.store.Commit(ctx, Namespace, key, name, pibroulez.WithLabels(labels)); err != nil {
 		s.unname(ctx, info.ID, key, err)
 		return about.classified(err)
 	}
@@ -215,7 +219,7 @@ func (s *Snapshotter) Remove(ctx context.Context, key string) error {
 	if err == nil {
 		defer end()
 		var info pibroulez.Info
-		if info, err = s.store.Stat(ctx, namespace, key); err == nil {
+		if info, err = s.store.Stat(ctx, Namespace, key); err == nil {
 			err = s.drop(ctx, info)
 		}
 	}
@@ -227,7 +231,7 @@ func (s *Snapshotter) Remove(ctx context.Context, key string) error {
 
 // Drops the snapshot that a call has made and failed to complete.
 func (s *Snapshotter) dropOwn(ctx context.Context, key string, id uint64) {
-	info, err := s.store.Stat(ctx, namespace, key)
+	info, err := s.store.Stat(ctx, Namespace, key)
 	if err == nil && info.ID == id {
 		err = s.drop(ctx, info)
 	}
@@ -244,9 +248,9 @@ func (s *Snapshotter) drop(ctx context.Context, info pibroulez.Info) error {
 	}
 	var err error
 	if info.Kind == pibroulez.KindActive {
-		_, err = s.store.Discard(ctx, namespace, info.Name)
+		_, err = s.store.Discard(ctx, Namespace, info.Name)
 	} else {
-		_, err = s.store.Remove(ctx, namespace, info.Name)
+		_, err = s.store.Remove(ctx, Namespace, info.Name)
 	}
 	if err != nil && !mayBeMade(err) {
 		if err := unmarkRemoving(directory); err != nil {
@@ -274,7 +278,7 @@ func (s *Snapshotter) Walk(ctx context.Context, fn snapshots.WalkFunc, texts ...
 	}
 	after := ""
 	for {
-		page, err := s.store.Walk(ctx, namespace, after, pageSize, pibroulez.Filter{})
+		page, err := s.store.Walk(ctx, Namespace, after, pageSize, pibroulez.Filter{})
 		if err != nil {
 			return subject{}.classified(err)
 		}

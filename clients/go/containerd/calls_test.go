@@ -22,7 +22,7 @@ func slowProgram(t *testing.T) string {
 	named, err := filepath.Abs(program())
 	granted(t, err)
 	path := filepath.Join(t.TempDir(), "slow")
-	script := fmt.Sprintf("#!/bin/sh\nwhile IFS= read -r line; do sleep 0.005; printf '%%s\\n' \"$line\"; done | %s serve\n", named)
+	script := fmt.Sprintf("#!/bin/sh\nwhile IFS= read -r line; do sleep 0.005; printf '%%s\\n' \"$line\"; done | %s \"$@\"\n", named)
 	granted(t, os.WriteFile(path, []byte(script), 0o700))
 	return path
 }
@@ -95,7 +95,7 @@ func expectEach(t *testing.T, s *Snapshotter, root string, granted map[string]bo
 	made := 0
 	for n := 0; n < calls; n++ {
 		key := fmt.Sprint("k", n)
-		info, err := s.store.Stat(ctx, namespace, key)
+		info, err := s.store.Stat(ctx, Namespace, key)
 		if (err == nil) != granted[key] {
 			t.Errorf("%s: answered %v, and then %v", key, granted[key], err)
 		}

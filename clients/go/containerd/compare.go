@@ -21,10 +21,24 @@ var ErrMismatch = errors.New("the directories are not those of the store's snaps
 // How many directories an error names.
 const mostNamed = 8
 
-// A root whose directories have records has a file that says so. One of version 0.1.0 has none.
+// A root has a file that says what its directories and its log are. One of version 0.1.0 has none.
 const (
 	formatFile = "format"
-	format     = "1\n"
+	format     = "2\n"
+	// Of a root whose directories have records, and whose log may be a client's own.
+	formatBefore = "1\n"
+)
+
+// What a root has of an earlier version.
+type rootAge int
+
+const (
+	// Its directories have records, and its log is the process's.
+	ofThisVersion rootAge = iota
+	// Its log may be one that a client has kept.
+	hadOldLog
+	// So may it, and its directories need no record.
+	lacksRecords
 )
 
 // What is found of a snapshot's directory.
@@ -142,20 +156,24 @@ func (d *directories) mend(nodes []pibroulez.Node, states map[uint64]state) (isW
 	return isWhole, nil
 }
 
-// Whether a root is of version 0.1.0, whose directories have no records. The error is of a root of a later version.
-func isOldRoot(root string) (bool, error) {
+// What a root has of an earlier version. The error is of a root of a later one.
+func ageOf(root string) (rootAge, error) {
 	path := filepath.Join(root, formatFile)
 	text, err := os.ReadFile(path)
-	if errors.Is(err, os.ErrNotExist) {
-		return true, nil
+	switch {
+	case errors.Is(err, os.ErrNotExist):
+		return lacksRecords, nil
+	case err != nil:
+		return 0, err
+	case string(text) == format:
+		return ofThisVersion, nil
+	case string(text) == formatBefore:
+		return hadOldLog, nil
 	}
-	if err == nil && string(text) != format {
-		err = fmt.Errorf("%s is %q, which this version doesn't know", path, text)
-	}
-	return false, err
+	return 0, fmt.Errorf("%s is %q, which this version doesn't know", path, text)
 }
 
-// Says that the directories of a root have records.
+// Says that a root is of this version.
 func writeFormat(root string) error {
 	path := filepath.Join(root, formatFile)
 	if err := writeSynced(path+".new", []byte(format)); err != nil {

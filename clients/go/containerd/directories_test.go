@@ -139,23 +139,14 @@ func TestMismatches(t *testing.T) {
 	}
 }
 
-func first(errs ...error) error {
-	for _, err := range errs {
-		if err != nil {
-			return err
-		}
-	}
-	return nil
-}
-
 // What a crash leaves between any two steps of a call is neither refused nor served from another directory.
 func TestCrashBetweenSteps(t *testing.T) {
 	commitIn := func(store *pibroulez.Store) {
-		_, err := store.Commit(ctx, namespace, "b", "new")
+		_, err := store.Commit(ctx, Namespace, "b", "new")
 		granted(t, err)
 	}
 	discardIn := func(store *pibroulez.Store) {
-		_, err := store.Discard(ctx, namespace, "b")
+		_, err := store.Discard(ctx, Namespace, "b")
 		granted(t, err)
 	}
 	none := func(*pibroulez.Store) {}
@@ -205,7 +196,7 @@ func TestCrashBetweenSteps(t *testing.T) {
 // Expects that each directory of a snapshot has the file of rootWithFour with the key of it.
 func expectOwn(t *testing.T, s *Snapshotter, root string) {
 	t.Helper()
-	nodes, err := s.store.Tree(ctx, namespace)
+	nodes, err := s.store.Tree(ctx, Namespace)
 	granted(t, err)
 	for _, node := range nodes {
 		text, err := os.ReadFile(inRoot(root, node.ID, "fs", "own"))
@@ -235,7 +226,7 @@ func expectNames(t *testing.T, root string, wanted ...string) {
 func TestCrashOfPrepare(t *testing.T) {
 	root := rootWithFour(t)
 	onStore(t, root, func(store *pibroulez.Store) {
-		_, err := store.Prepare(ctx, namespace, "d", "base")
+		_, err := store.Prepare(ctx, Namespace, "d", "base")
 		granted(t, err)
 	})
 	granted(t, os.MkdirAll(inRoot(root, "new-123", "fs"), 0o700))
@@ -319,7 +310,7 @@ func isServedRight(t *testing.T, root string, own map[string]string) bool {
 	s, err := New(ctx, Config{Program: program(), Root: root})
 	if err == nil {
 		granted(t, s.Walk(ctx, func(_ context.Context, info snapshots.Info) error {
-			node, err := s.store.Stat(ctx, namespace, info.Name)
+			node, err := s.store.Stat(ctx, Namespace, info.Name)
 			granted(t, err)
 			key, isOwn := own[fmt.Sprint(node.ID)]
 			if isOwn && key != info.Name {
@@ -356,7 +347,7 @@ func TestRootOfVersion010(t *testing.T) {
 	granted(t, os.Remove(inRoot(root, 2, "key")))
 	expectMismatch(t, root, []string{"snapshots/2", `"b"`}, ownFiles(root))
 
-	granted(t, os.WriteFile(filepath.Join(root, "format"), []byte("2\n"), 0o600))
+	granted(t, os.WriteFile(filepath.Join(root, "format"), []byte("3\n"), 0o600))
 	if _, err := New(ctx, Config{Program: program(), Root: root}); err == nil || !strings.Contains(err.Error(), "format") {
 		t.Errorf("%v: a root of a later version", err)
 	}

@@ -87,7 +87,7 @@ func TestDirectoryAfterAFullDisk(t *testing.T) {
 	root, fill, empty := rootOnSmallDisk(t)
 	granted(t, newSnapshotter(t, root).Close())
 	onStore(t, root, func(store *pibroulez.Store) {
-		_, err := store.Prepare(ctx, namespace, "k", "")
+		_, err := store.Prepare(ctx, Namespace, "k", "")
 		granted(t, err)
 	})
 	fill()

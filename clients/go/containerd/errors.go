@@ -25,6 +25,7 @@ var classes = []struct{ err, class error }{
 	{pibroulez.ErrOverLimit, errdefs.ErrUnavailable},
 	{pibroulez.ErrJournalFull, errdefs.ErrUnavailable},
 	{pibroulez.ErrNumbersSpent, errdefs.ErrUnavailable},
+	{pibroulez.ErrNotKept, errdefs.ErrUnavailable},
 	{pibroulez.ErrDied, errdefs.ErrUnavailable},
 	{pibroulez.ErrClosed, errdefs.ErrUnavailable},
 }
@@ -101,6 +102,7 @@ var plainWords = map[pibroulez.Reason]string{
 	pibroulez.ErrTooManyActives: "is not made: as many are active as may be",
 	pibroulez.ErrJournalFull:    "is not changed: the journal is full",
 	pibroulez.ErrNumbersSpent:   "is not made: the numbers are used up",
+	pibroulez.ErrNotKept:        "is not changed: the log can't keep the call",
 }
 
 // Which part of a call is malformed, by the limits of docs/RULES.md.

@@ -64,10 +64,10 @@ func TestWordsOfALimit(t *testing.T) {
 	root := t.TempDir()
 	s := newSnapshotter(t, root)
 	commit(t, s, "base", "")
-	granted(t, s.store.Limit(ctx, namespace, pibroulez.Usage{Blocks: 4, Inodes: 8}))
-	_, err := s.store.Prepare(ctx, namespace, "fills", "")
+	granted(t, s.store.Limit(ctx, Namespace, pibroulez.Usage{Blocks: 4, Inodes: 8}))
+	_, err := s.store.Prepare(ctx, Namespace, "fills", "")
 	granted(t, err)
-	_, err = s.store.Charge(ctx, namespace, "fills", pibroulez.Usage{Blocks: 3, Inodes: 1})
+	_, err = s.store.Charge(ctx, Namespace, "fills", pibroulez.Usage{Blocks: 3, Inodes: 1})
 	granted(t, err)
 	_, err = s.Prepare(ctx, "k", "base")
 	if !errdefs.IsUnavailable(err) || err.Error() != "over limit: free 0 blocks, 6 inodes" {

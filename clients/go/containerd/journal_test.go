@@ -102,7 +102,7 @@ func TestRestartWithAFullJournal(t *testing.T) {
 	granted(t, s.Close())
 	onStore(t, root, func(store *pibroulez.Store) {
 		for err == nil {
-			_, err = store.Stat(ctx, namespace, "active", pibroulez.WithEntry())
+			_, err = store.Stat(ctx, Namespace, "active", pibroulez.WithEntry())
 		}
 		if !errors.Is(err, pibroulez.ErrJournalFull) {
 			t.Fatalf("%v, not a full journal", err)

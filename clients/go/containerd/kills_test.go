@@ -110,7 +110,7 @@ func newOnceFree(root string) (*Snapshotter, error) {
 // Expects each snapshot's directory to be there, with the snapshot's record, and no other. How many there are.
 func expectWhole(t *testing.T, s *Snapshotter) int {
 	t.Helper()
-	nodes, err := s.store.Tree(ctx, namespace)
+	nodes, err := s.store.Tree(ctx, Namespace)
 	granted(t, err)
 	if _, err := s.directories.compare(nodes, false); err != nil {
 		t.Error(err)

@@ -21,8 +21,8 @@ import (
 	"pibroulez.example/pibroulez"
 )
 
-// All snapshots are in one namespace of the store: containerd has the names of its own in their keys.
-const namespace = "containerd"
+// Namespace is the one of the store in which all snapshots are: containerd has the names of its own in their keys.
+const Namespace = "containerd"
 
 // What a block of a usage is, in bytes.
 const blockSize = 4096
@@ -39,18 +39,28 @@ type Config struct {
 	Program string
 	// Root is a directory for this snapshotter alone.
 	Root string
+	// Store is a store that others use too, or nil for one of the snapshotter's own. It has Namespace and this Root, and
+	// whoever has opened it closes it and begins its rounds. Program has no meaning then.
+	Store *pibroulez.Store
+	// Charge makes a call that charges 1/1, as one that first gets a limit of a cluster for it, or is nil where the call is
+	// made as it is. The call may be made again where it was pibroulez.ErrOverLimit.
+	Charge func(ctx context.Context, call func(context.Context) error) error
 	// The most entries of each round of the journal, or the store's default where it is 0.
 	journal uint64
 }
 
 // A Snapshotter is one of containerd. Any number of goroutines may call it.
 type Snapshotter struct {
-	store       *pibroulez.Store
+	store *pibroulez.Store
+	// Whether others use the store too.
+	isShared    bool
 	directories *directories
 	times       *times
 	locks       locks
 	// What overlay mounts need beside the store's options.
 	options []string
+	// Makes a call that charges.
+	charge func(ctx context.Context, call func(context.Context) error) error
 	// Calls that change something read, and Close writes.
 	running sync.RWMutex
 }
@@ -62,8 +72,11 @@ var (
 
 // New makes a snapshotter over a store of its own, or over the one that Root has. No two processes have one at once.
 //
-// The error is ErrMismatch where the directories aren't those of the store's snapshots, and syscall.EWOULDBLOCK where
-// another process has the root; others are those of pibroulez.OpenOrNew.
+// With Config.Store it is over that one, and nobody else may change snapshots of Namespace there.
+//
+// The log of a root of an earlier version is taken over once, and stays under another name. The error is ErrMismatch where
+// the directories aren't those of the store's snapshots, and syscall.EWOULDBLOCK where another process has the root; others
+// are those of pibroulez.OpenOrNew.
 func New(ctx context.Context, config Config) (*Snapshotter, error) {
 	root, err := filepath.Abs(config.Root)
 	if err != nil {
@@ -73,64 +86,130 @@ func New(ctx context.Context, config Config) (*Snapshotter, error) {
 	if err := os.MkdirAll(directories.path, 0o700); err != nil {
 		return nil, err
 	}
-	store, isOld, err := openStore(ctx, config, directories, root)
+	store, age, err := openStore(ctx, config, directories, root)
 	if err != nil {
 		return nil, subject{}.classified(err)
 	}
 	s := &Snapshotter{
 		store:       store,
+		isShared:    config.Store != nil,
 		directories: directories,
 		locks:       locks{held: map[string]*lock{}},
 		options:     overlayOptions(root),
+		charge:      config.Charge,
 	}
-	store.RollWhenFull(config.journal)
-	if err := s.begin(ctx, config, root, isOld); err != nil {
+	if s.charge == nil {
+		s.charge = func(ctx context.Context, call func(context.Context) error) error { return call(ctx) }
+	}
+	if !s.isShared {
+		store.RollWhenFull(config.journal)
+	}
+	if err := s.begin(ctx, config, root, age); err != nil {
 		s.Close()
 		return nil, subject{}.classified(err)
 	}
 	return s, nil
 }
 
-// The store of a root, and whether the root is of version 0.1.0.
-func openStore(ctx context.Context, config Config, directories *directories, root string) (*pibroulez.Store, bool, error) {
-	isOld, err := isOldRoot(root)
+// The store of a root, and what the root had of an earlier version before. A log of such a one is taken over.
+func openStore(ctx context.Context, config Config, directories *directories, root string) (*pibroulez.Store, rootAge, error) {
+	age, err := ageOf(root)
 	if err != nil {
-		return nil, false, err
+		return nil, age, err
 	}
-	path := filepath.Join(root, "calls.jsonl")
+	if config.Store != nil {
+		age, err = ageOfShared(ctx, config.Store, directories, root, age)
+		return config.Store, age, err
+	}
+	path := filepath.Join(root, LogFile)
 	if _, err := os.Lstat(path); errors.Is(err, fs.ErrNotExist) {
 		// Without a log there is no snapshot, and a directory that has one's key lacks its log.
 		if _, err := directories.compare(nil, false); err != nil {
-			return nil, false, err
+			return nil, age, err
 		}
 		if err := writeFormat(root); err != nil {
-			return nil, false, err
+			return nil, age, err
 		}
-		isOld = false
+		age = ofThisVersion
 	}
-	store, err := pibroulez.OpenOrNew(ctx, pibroulez.Config{
-		Program:    config.Program,
-		Root:       root,
-		Namespaces: map[string]pibroulez.Usage{namespace: {Blocks: 1 << 40, Inodes: 1 << 40}},
-		Slots:      mostActive,
-		Journal:    config.journal,
-		Log:        path,
+	store, err := openAged(ctx, config.Program, root, age, func() (*pibroulez.Store, error) {
+		return pibroulez.OpenOrNew(ctx, config.ofStore(root, path))
 	})
-	return store, isOld, err
+	return store, age, err
+}
+
+// OpenStore opens a store whose log is LogFile in a root, by a function as pibroulez.OpenOrNew, for Config.Store. The log of
+// a root of an earlier version is taken over once, and stays under another name. The errors are the function's, and those of
+// New for a log of such a version.
+func OpenStore(ctx context.Context, program, root string, open func() (*pibroulez.Store, error)) (*pibroulez.Store, error) {
+	age, err := ageOf(root)
+	if err != nil {
+		return nil, err
+	}
+	return openAged(ctx, program, root, age, open)
+}
+
+// Opens the store of a root that had this of an earlier version. A log of such a one is taken over.
+func openAged(ctx context.Context, program, root string, age rootAge, open func() (*pibroulez.Store, error)) (*pibroulez.Store, error) {
+	if path := filepath.Join(root, LogFile); age != ofThisVersion && isZeroed(path) {
+		return nil, &pibroulez.BadLog{Path: path, Line: 1, Words: "it begins with a zero"}
+	}
+	store, err := open()
+	if bad := new(pibroulez.BadLog); age != ofThisVersion && errors.As(err, &bad) {
+		if err = takeOver(ctx, program, root); err == nil {
+			store, err = open()
+		}
+	}
+	return store, err
+}
+
+// Whether a log that a client may have kept has lost its beginning. The process would take it for a new one.
+func isZeroed(path string) bool {
+	file, err := os.Open(path)
+	if err != nil {
+		return false
+	}
+	defer file.Close()
+	var begin [2]byte
+	size, _ := file.ReadAt(begin[:], 0)
+	return size == len(begin) && begin[0] == 0
+}
+
+func (c Config) ofStore(root, log string) pibroulez.Config {
+	return pibroulez.Config{
+		Program:    c.Program,
+		Root:       root,
+		Namespaces: map[string]pibroulez.Usage{Namespace: {Blocks: 1 << 40, Inodes: 1 << 40}},
+		Slots:      mostActive,
+		Journal:    c.journal,
+		Log:        log,
+	}
+}
+
+// What the root of a store that others use too had of an earlier version. One without snapshots needs no records.
+func ageOfShared(ctx context.Context, store *pibroulez.Store, directories *directories, root string, age rootAge) (rootAge, error) {
+	nodes, err := store.Tree(ctx, Namespace)
+	if err != nil || age != lacksRecords || len(nodes) > 0 {
+		return age, err
+	}
+	if _, err := directories.compare(nil, false); err != nil {
+		return age, err
+	}
+	return ofThisVersion, writeFormat(root)
 }
 
 // Compares the directories with the store, and then has each snapshot's there and no other, and begins a new round of the
 // journal. On a full disk it does of this what needs no room.
-func (s *Snapshotter) begin(ctx context.Context, config Config, root string, isOld bool) error {
+func (s *Snapshotter) begin(ctx context.Context, config Config, root string, age rootAge) error {
 	// A program of version 0.1.0 takes no question without an entry: it is a fault, and nothing is changed.
-	if _, err := s.store.Walk(ctx, namespace, "", 1, pibroulez.Filter{}); err != nil {
+	if _, err := s.store.Walk(ctx, Namespace, "", 1, pibroulez.Filter{}); err != nil {
 		return err
 	}
-	nodes, err := s.store.Tree(ctx, namespace)
+	nodes, err := s.store.Tree(ctx, Namespace)
 	if err != nil {
 		return err
 	}
-	states, err := s.directories.compare(nodes, isOld)
+	states, err := s.directories.compare(nodes, age == lacksRecords)
 	if err != nil {
 		return err
 	}
@@ -138,13 +217,19 @@ func (s *Snapshotter) begin(ctx context.Context, config Config, root string, isO
 	if err != nil {
 		return err
 	}
-	if isOld && isWhole {
-		if err := writeFormat(root); err != nil && !isFull(err) {
+	if age == hadOldLog || age == lacksRecords && isWhole {
+		err := (&takeover{root: root}).clear()
+		if err == nil {
+			err = writeFormat(root)
+		}
+		if err != nil && !isFull(err) {
 			return err
 		}
 	}
-	if err := s.store.Roll(ctx, config.journal); err != nil {
-		return err
+	if !s.isShared {
+		if err := s.store.Roll(ctx, config.journal); err != nil && !errors.Is(err, pibroulez.ErrNotKept) {
+			return err
+		}
 	}
 	ids := map[uint64]bool{}
 	for _, node := range nodes {
@@ -163,7 +248,7 @@ func (s *Snapshotter) Cleanup(ctx context.Context) error {
 
 func (s *Snapshotter) clean(ctx context.Context) error {
 	return s.directories.clean(func() ([]pibroulez.Node, error) {
-		nodes, err := s.store.Tree(ctx, namespace)
+		nodes, err := s.store.Tree(ctx, Namespace)
 		return nodes, subject{}.classified(err)
 	})
 }
@@ -179,7 +264,8 @@ func (s *Snapshotter) Err() error { return s.store.Err() }
 const patience = 10 * time.Second
 
 // Close ends the store's process, once the calls that run have ended, and waits for the removals of directories. The
-// snapshots stay. A process that answers nothing is killed after a while, as pibroulez.Store.Close says.
+// snapshots stay. A process that answers nothing is killed after a while, as pibroulez.Store.Close says. A store that
+// others use too isn't ended; close it before where calls may wait for it.
 func (s *Snapshotter) Close() error {
 	alone := make(chan struct{})
 	go func() {
@@ -190,7 +276,10 @@ func (s *Snapshotter) Close() error {
 	case <-alone:
 	case <-time.After(patience):
 	}
-	err := s.store.Close()
+	var err error
+	if !s.isShared {
+		err = s.store.Close()
+	}
 	<-alone
 	defer s.running.Unlock()
 	s.directories.removals.wait()

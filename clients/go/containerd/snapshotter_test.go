@@ -188,7 +188,7 @@ func TestProgramOfVersion010(t *testing.T) {
 	named, err := filepath.Abs(program())
 	granted(t, err)
 	path := filepath.Join(t.TempDir(), "old")
-	script := fmt.Sprintf("#!/bin/sh\nsed -u 's/\"quiet\"/\"quite\"/' | %s serve\n", named)
+	script := fmt.Sprintf("#!/bin/sh\nsed -u 's/\"quiet\"/\"quite\"/' | %s \"$@\"\n", named)
 	granted(t, os.WriteFile(path, []byte(script), 0o700))
 	_, err = New(ctx, Config{Program: path, Root: t.TempDir()})
 	if fault := new(pibroulez.Fault); !errors.As(err, &fault) || !strings.Contains(fault.Words, "quite") {

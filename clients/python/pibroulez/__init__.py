@@ -12,6 +12,10 @@ Any number of threads may share a store. The process keeps all in memory, so not
 
     with Store("/r", {"a": (100, 100)}, log="store.log") as store: ...
     with Store.from_log("store.log") as store: ...
+
+A daemon shares its store at a socket:
+
+    with Store.connect("/run/pibroulez/lines.sock") as store: ...
 """
 from .answers import (
     Change,
@@ -56,6 +60,7 @@ from .errors import (
     Invalid,
     IsDir,
     JournalFull,
+    LateLine,
     LayerFull,
     LeaseExists,
     Leased,
@@ -64,11 +69,14 @@ from .errors import (
     NoLease,
     NoNamespace,
     NoSession,
+    NoSpace,
+    NotAllowed,
     NotActive,
     NotCommitted,
     NotDir,
     NotEmpty,
     NotFound,
+    NotKept,
     NotPermitted,
     NumbersSpent,
     OverLimit,
@@ -78,6 +86,7 @@ from .errors import (
     TooBig,
     TooDeep,
     TooManyActives,
+    TooManyConnections,
     TooManyLinks,
 )
 from .store import PROGRAM, Store
@@ -110,6 +119,7 @@ __all__ = [
     "IsDir",
     "JournalFull",
     "Kind",
+    "LateLine",
     "LayerFull",
     "Lease",
     "LeaseExists",
@@ -120,12 +130,15 @@ __all__ = [
     "NoLease",
     "NoNamespace",
     "NoSession",
+    "NoSpace",
     "Node",
     "NotActive",
+    "NotAllowed",
     "NotCommitted",
     "NotDir",
     "NotEmpty",
     "NotFound",
+    "NotKept",
     "NotPermitted",
     "NumbersSpent",
     "OverLimit",
@@ -147,6 +160,7 @@ __all__ = [
     "TooBig",
     "TooDeep",
     "TooManyActives",
+    "TooManyConnections",
     "TooManyLinks",
     "Usage",
     "Viewed",

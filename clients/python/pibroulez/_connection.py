@@ -1,26 +1,25 @@
-"""The process that keeps a store, and the two threads that have its pipes."""
+"""Who answers the lines of a store, and the two threads that write and read them."""
 from __future__ import annotations
 
 import collections
 import contextlib
 import copy
-import itertools
+import errno
 import json
 import os
 import queue
 import signal
-import subprocess
 import threading
 import weakref
 from typing import Deque, Iterator, Sequence
 
-from ._log import Log, StrPath
-from .errors import BadLog, Died, Error, Fault, Forked, error_in
-
-#: How long a process may take to answer what it was sent and to end, in seconds, before it is killed.
-END_SECONDS = 60.0
+from ._peers import Peer
+from .errors import BadLog, Died, Error, Forked, LogFailed, error_in
 
 _CHUNK = 1 << 16
+
+# The statuses of a process that has no log, or whose log failed: docs/SCRIPT.md.
+_BUSY, _NO_LOG, _LOG_FAILED = 6, 7, 8
 
 
 def is_fault(answer: bytes) -> bool:
@@ -40,16 +39,21 @@ def _error_of_open(answer: bytes) -> Error | None:
     return Died(-signal.SIGKILL, "the process has answered what is no answer to an open")
 
 
+def _unasked(response: bytes, otherwise: str) -> Died:
+    """What ends a connection with an answer that nobody waits for: the refusal of a daemon that ends it."""
+    with contextlib.suppress(ValueError):
+        members = json.loads(response)
+        error = error_in(members) if isinstance(members, dict) else None
+        if error:
+            return Died(-signal.SIGKILL, str(error))
+    return Died(-signal.SIGKILL, otherwise)
+
+
 class _Call:
-    """A line on its way, and the place where its caller finds the answer.
+    """A line on its way, and the place where its caller finds the answer."""
 
-    A kept line is one on which the state depends. A synced one has to be on the disk before its answer is handed out.
-    """
-
-    def __init__(self, line: bytes, kept: bool, synced: bool) -> None:
+    def __init__(self, line: bytes) -> None:
         self.line = line
-        self.kept = kept
-        self.synced = synced
         self.number = 0
         self._answers: queue.SimpleQueue[bytes | Error] = queue.SimpleQueue()
 
@@ -67,7 +71,7 @@ class _Call:
             return response[len(begin) : -len(end)]
         if is_fault(response):
             return response
-        raise Died(-signal.SIGKILL, "the process has answered another call")
+        raise _unasked(response, "the process has answered another call")
 
     def end(self, answer: bytes | Error) -> None:
         """Hands out the answer, or the error in its place."""
@@ -82,29 +86,17 @@ class _Call:
 
 
 class Connection:
-    """A process that answers each line by a line, and a log that keeps the lines.
+    """A process or a daemon that answers each line by a line. The process may have a log.
 
-    It is begun or resumed once. From then on any thread calls `exchange`, also a signal handler within one: it hands a
-    line to a thread that writes, and waits until another, which reads, has its answer. Where a caller is interrupted as
-    it waits, its call goes on, and the answer is dropped.
+    Within `beginning` it is asked for its store, or opens one. From then on any thread calls `exchange`, also a signal
+    handler within one: it hands a line to a thread that writes, and waits until another, which reads, has its answer.
+    Where a caller is interrupted as it waits, its call goes on, and the answer is dropped.
     """
 
-    def __init__(self, program: StrPath, log: Log | None = None) -> None:
-        """Raises OSError where the program doesn't start, and closes the log then."""
-        self._log = log
-        pipe = subprocess.PIPE
-        try:
-            # In a session of its own, so that an interrupt at a terminal reaches the client alone. Without buffers,
-            # whose locks a thread would hold where the interpreter ends during its read.
-            self._process = subprocess.Popen(
-                [program, "serve"], stdin=pipe, stdout=pipe, stderr=pipe, bufsize=0, start_new_session=True
-            )
-        except BaseException:
-            self._close_log()
-            raise
-        assert self._process.stdin and self._process.stdout and self._process.stderr
-        self._input, self._output, self._errors = self._process.stdin, self._process.stdout, self._process.stderr
-        self.pid = self._process.pid
+    def __init__(self, peer: Peer) -> None:
+        self._peer = peer
+        self._log = peer.log
+        self.pid = peer.pid
         self._owner = os.getpid()
         self._responses = self._batches()
         # The calls that the writer has yet to send, and None where it is to end.
@@ -118,60 +110,58 @@ class Connection:
         self._reader = threading.Thread(target=self._read, name="pibroulez-reader", daemon=True)
         _connections.add(self)
 
-    def begin(self, opening: bytes, log: StrPath | None) -> None:
-        """Opens a store by a line, and then makes a log with it, where one is named.
-
-        Raises what the store is refused for, and what `Log.new` raises.
-        """
-        with self._ended_by_an_error():
-            if error := _error_of_open(self._ask(opening)):
-                raise error
-            if log is not None:
-                self._log = Log.new(log, opening)
-            self._run()
-
-    def resume(self) -> None:
-        """Has the store back that the log tells. Raises BadLog where a line isn't taken, OSError where none is read."""
-        assert self._log
-        with self._ended_by_an_error():
-            self._replay(self._log)
-            self._log.cut()
-            self._run()
-
     @contextlib.contextmanager
-    def _ended_by_an_error(self) -> Iterator[None]:
+    def beginning(self) -> Iterator[None]:
+        """Within it `has_store` and `open` are called, and behind it the others. An error ends the process."""
         try:
             yield
+            self._run()
         except BaseException:
             self.kill()
             self._calls.put(None)
             if self._reader.is_alive():
                 self._finished.wait()
             else:
-                self._ending()
-                self._close_log()
-                self._input.close()
+                self._peer.ending()
+                self._peer.end_lines()
             raise
+
+    def has_store(self) -> bool:
+        """Whether there is a store, by the process's answer: it has the log alone from before it to its end.
+
+        Raises BlockingIOError where another process has the log, BadLog where the file is none, and Died.
+        """
+        if self._log is None:
+            return False
+        answer = self._ask(b'{"do":"report"}\n')
+        if not is_fault(answer) and not answer.startswith(b'{"entries":'):
+            raise Died(-signal.SIGKILL, "the process has answered what is no answer to a report")
+        return not is_fault(answer)
+
+    def open(self, opening: bytes) -> None:
+        """Opens a store by a line. Raises what it is refused for, and what `has_store` raises."""
+        if error := _error_of_open(self._ask(opening)):
+            raise error
 
     def _run(self) -> None:
         self._writer.start()
         self._reader.start()
 
-    # The pipes
+    # The lines and answers
 
     def _send(self, text: bytes) -> None:
         """Sends lines. Where the process takes none, `_batches` finds its end."""
         rest = memoryview(text)
         try:
             while rest:
-                rest = rest[os.write(self._input.fileno(), rest) :]
+                rest = rest[self._peer.write(rest) :]
         except BrokenPipeError:
             pass
 
     def _batches(self) -> Iterator[list[bytes]]:
         """The lines that the process writes, without their line feeds, as many at a time as have come together."""
         held = bytearray()
-        while part := os.read(self._output.fileno(), _CHUNK):
+        while part := self._peer.read(_CHUNK):
             held += part
             end = held.rfind(b"\n", len(held) - len(part))
             if end >= 0:
@@ -183,82 +173,39 @@ class Connection:
         self._send(line)
         for lines in self._responses:
             return lines[0]
-        raise Died(*self._ending())
+        raise self._error_at_start(*self._peer.ending())
 
-    def _replay(self, log: Log) -> None:
-        """Sends the lines of the log, by a thread, so that neither side waits for the other."""
-        failures: list[OSError] = []
+    def _error_at_start(self, status: int, words: str) -> Exception:
+        """Why a process has ended that has answered nothing."""
+        if self._log is not None and status == _BUSY:
+            return BlockingIOError(errno.EWOULDBLOCK, "another process has the log", self._log)
+        if self._log is not None and status == _NO_LOG:
+            return BadLog(self._log, 0, words)
+        return self._error_of_end(status, words)
 
-        def send() -> None:
-            try:
-                for part in log.text():
-                    self._send(part)
-            except OSError as error:
-                failures.append(error)
-                self.kill()
-
-        sender = threading.Thread(target=send, daemon=True)
-        sender.start()
-        try:
-            self._check_replay(log)
-        except BaseException:
-            self.kill()
-            sender.join()
-            if failures:
-                raise failures[0] from None
-            raise
-        sender.join()
-
-    def _check_replay(self, log: Log) -> None:
-        count = 0
-        answers = itertools.chain.from_iterable(self._responses)
-        for count, answer in enumerate(itertools.islice(answers, log.count), 1):
-            if count == 1 or is_fault(answer):
-                members = json.loads(answer)
-                error = error_in(members.get("answer", members))
-                if error:
-                    raise BadLog(log.path, count, error.fault if isinstance(error, Fault) else f"refused: {error}")
-        if count < log.count:
-            raise Died(*self._ending())
+    def _error_of_end(self, status: int, words: str) -> Died:
+        if self._log is not None and status == _LOG_FAILED:
+            return LogFailed(self._log, status, words)
+        return Died(status, words)
 
     def kill(self) -> None:
-        """Has the process end at once, with all of its session."""
-        if self._process.poll() is None:
-            with contextlib.suppress(ProcessLookupError):
-                os.killpg(self.pid, signal.SIGKILL)
-
-    def _ending(self) -> tuple[int, str]:
-        """The status of the process, once it has ended, and its words. It is killed where it takes too long."""
-        try:
-            self._process.wait(END_SECONDS)
-        except subprocess.TimeoutExpired:
-            self.kill()
-            self._process.wait()
-        words = b""
-        if not self._errors.closed:
-            # Another process that the program has started may have it still.
-            os.set_blocking(self._errors.fileno(), False)
-            words = self._errors.read() or b""
-        self._output.close()
-        self._errors.close()
-        return self._process.returncode, words.decode(errors="replace").strip()
-
-    def _close_log(self) -> None:
-        if self._log:
-            self._log.close()
+        """Has the process end at once, with all of its session, or the connection with a daemon."""
+        self._peer.kill()
 
     # The threads
 
     def _write(self) -> None:
         """Sends the calls in their order, and ends the input of the process with them."""
-        with self._input:
+        try:
             for number, call in enumerate(iter(self._calls.get, None), 1):
                 call.number = number
                 self._sent.append(call)
                 self._send(call.numbered())
+        finally:
+            self._peer.end_lines()
 
     def _read(self) -> None:
-        """Hands out the answers, until the process ends or the log fails."""
+        """Hands out the answers, until the process ends."""
         cause: BaseException | None = None
         try:
             for responses in self._responses:
@@ -269,27 +216,22 @@ class Connection:
         self._finish(cause)
 
     def _hand_out(self, responses: Sequence[bytes]) -> None:
-        """Hands out the answers that have come together, once the log has their lines."""
+        """Hands out the answers that have come together."""
         if len(responses) > len(self._sent):
-            raise Died(-signal.SIGKILL, "the process has answered what it wasn't sent")
-        answered = [(self._sent[at], self._sent[at].answer_in(it)) for at, it in enumerate(responses)]
-        kept = [call for call, answer in answered if call.kept and not is_fault(answer)]
-        if self._log and kept:
-            self._log.append([call.line for call in kept], sync=any(call.synced for call in kept))
-        for call, answer in answered:
-            self._sent.popleft()
-            call.end(answer)
+            raise _unasked(responses[-1], "the process has answered what it wasn't sent")
+        for response in responses:
+            answer = self._sent[0].answer_in(response)
+            self._sent.popleft().end(answer)
 
     def _finish(self, cause: BaseException | None) -> None:
         """Has all calls from now on, and those that wait, answered with the cause, once the process has ended."""
-        status, words = self._ending()
-        self._close_log()
+        status, words = self._peer.ending()
         self._calls.put(None)
         self._writer.join()
         if isinstance(cause, Error):
             self._cause = cause
         else:
-            self._cause = Died(status, repr(cause) if cause else words)
+            self._cause = self._error_of_end(status, repr(cause) if cause else words)
         while self._sent:
             self._sent.popleft().end(copy.copy(self._cause))
         self._end_calls(self._cause)
@@ -305,10 +247,10 @@ class Connection:
 
     # Its callers
 
-    def exchange(self, line: bytes, *, kept: bool, synced: bool) -> bytes:
+    def exchange(self, line: bytes) -> bytes:
         """The answer to a line, which has its line feed. Raises why there is none, and Forked in a forked process."""
         self.check_owner()
-        call = _Call(line, kept, synced)
+        call = _Call(line)
         self._calls.put(call)
         if self._cause:
             # The call may have come after all were ended.
@@ -336,10 +278,8 @@ class Connection:
             raise Forked(self._owner)
 
     def leave(self) -> None:
-        """Closes what a forked process has of the pipes and the log, so that they end with their owner."""
-        for pipe in (self._input, self._output, self._errors):
-            pipe.close()
-        self._close_log()
+        """Closes what a forked process has of the peer, so that it ends with its owner."""
+        self._peer.leave()
 
 
 _connections: weakref.WeakSet[Connection] = weakref.WeakSet()

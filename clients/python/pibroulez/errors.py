@@ -12,7 +12,8 @@ class Error(Exception):
 
 
 class Refused(Error):
-    """The store has refused a call. `source` is `book`, `world`, or `file` for an error of a file."""
+    """The store has refused a call. `source` is `book`, `world`, `file` for an error of a file, or `log`, and `door` or
+    `cluster` for a refusal of a daemon."""
 
     def __init__(self, name: str, source: str) -> None:
         super().__init__(name, source)
@@ -84,12 +85,19 @@ class TooManyActives(Refused):
 
 
 class OverLimit(Refused):
-    """The namespace hasn't so much free. `free` is what it has."""
+    """The namespace hasn't so much free. `free` is what it has.
 
-    def __init__(self, name: str, source: str, free: Usage) -> None:
+    `words` say why the cluster of a daemon has no room, and who has some; else they are empty.
+    """
+
+    def __init__(self, name: str, source: str, free: Usage, words: str = "") -> None:
         super().__init__(name, source)
-        self.args = (name, source, free)
+        self.args = (name, source, free, words)
         self.free = free
+        self.words = words
+
+    def __str__(self) -> str:
+        return super().__str__() + (f": {self.words}" if self.words else "")
 
 
 class BelowCharge(Refused):
@@ -114,6 +122,22 @@ class NoHand(Refused):
 
 class StillOut(Refused):
     """A snapshot is active, so no new round begins."""
+
+
+class NotAllowed(Refused):
+    """The caller's role may not make this call: a refusal of a daemon, and the store has not seen it."""
+
+
+class NoSpace(Refused):
+    """The log of a daemon has no room for the call, which the store has not seen."""
+
+
+class TooManyConnections(Refused):
+    """The caller's user has as many connections with a daemon as one may have. The connection ends: `Died`."""
+
+
+class LateLine(Refused):
+    """A line had no end for as long as a daemon waits. The connection ends: `Died`."""
 
 
 class NotDir(Refused):
@@ -160,6 +184,13 @@ class LayerFull(Refused):
     """The layer would have more inodes than the store was opened with (`layer_inodes`, 65,536)."""
 
 
+class NotKept(Refused):
+    """The log can't keep the call, as on a full disk. Nothing was changed: make the call again once there is room.
+
+    Calls that are read together are kept together or not at all, so another call's may be the line without room.
+    """
+
+
 class Fault(Error):
     """A line was no command. Nothing has changed. `line` is its number, from 1, of all lines of the process."""
 
@@ -200,23 +231,25 @@ class Died(Error):
 
 
 class LogFailed(Died):
-    """The log doesn't take a line, as on a full disk, or the line can't be brought to the disk.
+    """A sync of the log has failed. The process has ended then, and the store with it.
 
-    The process is killed then. A call that waited has not been made in the store that the log tells, but where the log
-    took its line before the failure. `path` is the log, and `error` the system's error.
+    Whether the log has the calls that waited is unknown: `Store.from_log` has the store back that it tells. `path` is
+    the log.
     """
 
-    def __init__(self, path: str, error: OSError) -> None:
-        super().__init__(-signal.SIGKILL, f"{path}: {error.strerror}")
-        self.args = (path, error)
+    def __init__(self, path: str, status: int, words: str) -> None:
+        super().__init__(status, words)
+        self.args = (path, status, words)
         self.path = path
-        self.error = error
+
+    def __str__(self) -> str:
+        return f"{self.path}: {super().__str__()}"
 
 
 class BadLog(Error):
-    """A file is no log, or a line of it isn't taken, so a store can't be had back. The file is as it was.
+    """A file is no log or can't be read as one, so a store can't be had back. The file is as it was.
 
-    `line` is the line's number, from 1.
+    `line` is the line's number, from 1, or 0 where it isn't that of a line, and `fault` what the program says of it.
     """
 
     def __init__(self, path: str, line: int, fault: str) -> None:
@@ -226,7 +259,7 @@ class BadLog(Error):
         self.fault = fault
 
     def __str__(self) -> str:
-        return f"{self.path}: line {self.line}: {self.fault}"
+        return f"{self.path}: " + (f"line {self.line}: " if self.line else "") + self.fault
 
 
 class Forked(Error):
@@ -250,7 +283,7 @@ def error_in(answer: Mapping[str, Any]) -> Error | None:
     if "error" in answer:
         name, source = answer["error"], answer["from"]
         if "free" in answer:
-            return OverLimit(name, source, Usage(*answer["free"]))
+            return OverLimit(name, source, Usage(*answer["free"]), answer.get("words", ""))
         if "field" in answer:
             return BadArgument(name, source, answer["field"])
         return _REFUSALS.get(name, Refused)(name, source)

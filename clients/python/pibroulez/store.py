@@ -1,6 +1,8 @@
 """A store that a process keeps."""
 from __future__ import annotations
 
+import contextlib
+import errno
 import json
 import os
 import threading
@@ -9,9 +11,9 @@ from pathlib import Path
 from types import TracebackType
 from typing import Any, Mapping, Type, Union
 
-from ._connection import END_SECONDS, Connection
+from ._connection import Connection
 from ._files import Files
-from ._log import Log, StrPath
+from ._peers import END_SECONDS, Daemon, Process, StrPath
 from ._snapshots import Snapshots
 from .answers import Pair
 from .errors import BadLog, Forked, JournalFull, ReservedField, error_in
@@ -21,13 +23,6 @@ _CRATE = Path(os.path.normpath(Path(__file__).resolve() / "../../../../crates/sn
 #: it `snap_replay`, as the search path has it.
 PROGRAM: Union[str, Path] = _CRATE / "out/snap_replay" if _CRATE.is_dir() else "snap_replay"
 
-# Commands that change nothing and make no entry in the journal. A log does without them.
-_LOOKUPS = ("look", "list", "read", "resolve", "du", "quota", "leases", "tree", "diff", "journal", "report")
-# Fields by which a command that makes an entry becomes one that makes none.
-_WITHOUT_ENTRY = ("try", "chain", "quiet")
-# Commands that change nothing and make an entry. A log has them, since entries are numbered, but they need not have
-# reached the disk before they are answered.
-_QUESTIONS = ("stat", "usage", "mounts", "walk")
 # Commands that begin a round.
 _ROUNDS = ("roll", "reopen")
 
@@ -45,23 +40,51 @@ def _opening(root: str, namespaces: Mapping[str, Pair], **bounds: int | None) ->
     return _line({"do": "open", "root": root, "namespaces": limits, **given})
 
 
+def _find(log: StrPath, *, create: bool) -> None:
+    """Looks whether the file of a log can be opened, and its path is UTF-8. It is its owner's alone where it is made."""
+    os.fsdecode(log).encode()
+    flags = os.O_RDWR | os.O_CLOEXEC | os.O_NOCTTY | os.O_NONBLOCK
+    os.close(os.open(log, flags | (os.O_CREAT if create else 0), 0o600))
+
+
+def _has_store(connection: Connection, log: StrPath) -> bool:
+    """Whether the log of a process has a store. Raises BadLog where it has lines and no store."""
+    if connection.has_store():
+        return True
+    with open(log, "rb") as file:
+        if file.read(1) == b"{":
+            raise BadLog(os.fspath(log), 1, "it opens no store")
+    return False
+
+
+def _opening_in(log: StrPath) -> Mapping[str, Any]:
+    """The command that opened a log's store. It stands in the first line, which never changes."""
+    with open(log, "rb") as file, contextlib.suppress(ValueError, RecursionError):
+        command = json.loads(file.readline())
+        if isinstance(command, dict):
+            return command
+    raise BadLog(os.fspath(log), 1, "no open")
+
+
 def _in_order(value: object) -> object:
     """A field of an opening, in which the namespaces have any order."""
     return sorted(value, key=str) if isinstance(value, list) else value
 
 
 class Store(Snapshots, Files):
-    """A store that a process of its own keeps. A context manager: the process ends with it.
+    """A store that a process of its own keeps, or a daemon that others use too. A context manager: the process ends
+    with it, or the connection with the daemon.
 
     Any thread may call it, and any number at one time. Each method makes the call of its command, waits for the answer,
     and raises the `Refused` that the store answers, `Fault` for what is no command, and `Died` once the process has
     ended. What is left out has the command's default; `session` is the number of the session that makes the call, 0
     where it is left out.
 
-    Each call is sent as it is made, and its answer is that of its place in the order. An answer is handed out once the
-    log, if there is one, has the lines of its call and of all before it on the disk: those that come together share a
-    sync. A log that fails ends the store: `LogFailed`. A call whose caller is interrupted as it waits may still be
-    made; its answer is dropped. In a process that was forked from the one that has the store each call raises `Forked`.
+    Each call is sent as it is made, and its answer is that of its place in the order. Where there is a log, a call that
+    changes the store is on the disk before it is answered: those that are read together share their syncs. A call that
+    the log can't keep, as on a full disk, raises `NotKept` and changes nothing; no call is made again by itself. Where
+    a sync fails the store ends: `LogFailed`. A call whose caller is interrupted as it waits may still be made; its
+    answer is dropped. In a process that was forked from the one that has the store each call raises `Forked`.
     """
 
     def __init__(
@@ -86,27 +109,49 @@ class Store(Snapshots, Files):
         sessions are gone then: a call in another session than 0 raises `NoSession`. Several calls that find one
         journal full begin one round. What the roll is refused for is raised by the call.
 
-        Raises BadArgument or JournalFull where the store is refused, OSError where the program doesn't start,
-        FileExistsError where the log has lines, BadLog where the file is no log, BlockingIOError where another process
-        has it, and LogFailed where it takes no line. A file that has text stays as it was.
+        Raises BadArgument or JournalFull where the store is refused, NotKept where the log has no room for it, OSError
+        where the program doesn't start or the log can't be opened, FileExistsError where the log has a store, BadLog
+        where the file is no log, BlockingIOError where another process has it, and LogFailed where its sync fails. A
+        file that has text stays as it was. A log without a line may be left, on which a store can be begun.
         """
         line = _opening(root, namespaces, journal=journal, slots=slots, layer_inodes=layer_inodes)
-        connection = Connection(program)
-        connection.begin(line, log)
+        if log is not None:
+            _find(log, create=True)
+        connection = Connection(Process(program, log))
+        with connection.beginning():
+            if log is not None and _has_store(connection, log):
+                raise FileExistsError(errno.EEXIST, "the log of a store, to be opened", os.fspath(log))
+            connection.open(line)
         self._take(connection, journal, roll_when_full)
 
     @classmethod
-    def from_log(cls, log: StrPath, *, program: StrPath = PROGRAM, roll_when_full: bool = False) -> Store:
-        """A store as its log tells it, which goes on with the log.
+    def connect(cls, socket: StrPath) -> Store:
+        """The store that a daemon shares at a socket. The daemon has opened it, keeps its log and begins its rounds, and
+        says by the roles of the caller's user and groups what a call may do: else it raises NotAllowed. Where its log has
+        no room for a call, this raises NoSpace.
 
-        A last line without its line feed is cut off: its call wasn't answered. The cost is that of all calls in the
-        log.
-
-        Raises FileNotFoundError where there is no log, or none with a whole line, BadLog where the file is no log or a
-        line isn't taken, BlockingIOError where another process has it, and OSError where the program doesn't start.
-        The file is as it was then.
+        Raises OSError where nobody listens there. Died is then of the connection.
         """
-        return cls._resumed(Log.old(log), program, roll_when_full)
+        connection = Connection(Daemon(socket))
+        with connection.beginning():
+            pass
+        return cls._with(connection, None, False)
+
+    @classmethod
+    def from_log(cls, log: StrPath, *, program: StrPath = PROGRAM, roll_when_full: bool = False) -> Store:
+        """A store as its log tells it, which goes on with the log. The cost is that of all calls in the log.
+
+        Raises FileNotFoundError where there is no log, or none with a line, BadLog where the file is no log,
+        BlockingIOError where another process has it, and OSError where the program doesn't start or the log can't be
+        opened. A file that has text is as it was then. A log of version 0.1.0 is BadLog: see `pibroulez.take_over`.
+        """
+        _find(log, create=False)
+        connection = Connection(Process(program, log))
+        with connection.beginning():
+            if not _has_store(connection, log):
+                raise FileNotFoundError(errno.ENOENT, "a log without a line", os.fspath(log))
+            opening = _opening_in(log)
+        return cls._with(connection, opening.get("journal"), roll_when_full)
 
     @classmethod
     def open_or_new(
@@ -121,31 +166,29 @@ class Store(Snapshots, Files):
         program: StrPath = PROGRAM,
         roll_when_full: bool = False,
     ) -> Store:
-        """The store that the log tells, or a new one where there is no log, or none with a whole line.
+        """The store that the log tells, or a new one where there is no log, or none with a line.
 
         Raises what `from_log` and `Store` raise, and BadLog where the log's store was opened with other values than
         these. Limits that were changed later don't count.
         """
         bounds = {"journal": journal, "slots": slots, "layer_inodes": layer_inodes}
-        wanted = json.loads(_opening(root, namespaces, **bounds))
-        try:
-            lines = Log.old(log)
-        except FileNotFoundError:
-            return cls(root, namespaces, program=program, log=log, roll_when_full=roll_when_full, **bounds)
-        found = lines.first or {}
-        for field in ("root", "namespaces", *bounds):
-            if _in_order(wanted.get(field)) != _in_order(found.get(field)):
-                lines.close()
-                fault = f"the store was opened with {field} {found.get(field)}, and {wanted.get(field)} is wanted"
-                raise BadLog(lines.path, 1, fault)
-        return cls._resumed(lines, program, roll_when_full)
+        line = _opening(root, namespaces, **bounds)
+        _find(log, create=True)
+        connection = Connection(Process(program, log))
+        with connection.beginning():
+            if _has_store(connection, log):
+                wanted, found = json.loads(line), _opening_in(log)
+                for field in ("root", "namespaces", *bounds):
+                    if _in_order(wanted.get(field)) != _in_order(found.get(field)):
+                        fault = f"the store was opened with {field} {found.get(field)}, not {wanted.get(field)}"
+                        raise BadLog(os.fspath(log), 1, fault)
+            else:
+                connection.open(line)
+        return cls._with(connection, journal, roll_when_full)
 
     @classmethod
-    def _resumed(cls, lines: Log, program: StrPath, roll_when_full: bool) -> Store:
+    def _with(cls, connection: Connection, journal: int | None, roll_when_full: bool) -> Store:
         store = cls.__new__(cls)
-        connection = Connection(program, lines)
-        connection.resume()
-        journal = (lines.first or {}).get("journal")
         store._take(connection, journal, roll_when_full)
         return store
 
@@ -174,7 +217,7 @@ class Store(Snapshots, Files):
 
     @property
     def pid(self) -> int:
-        """The process."""
+        """The process, or the daemon's."""
         return self._connection.pid
 
     def close(self, seconds: float = END_SECONDS) -> None:
@@ -198,14 +241,14 @@ class Store(Snapshots, Files):
         line = _line(given)
         if given.get("do") in _ROUNDS:
             with self._round:
-                answer = self._made(given, line)
+                answer = self._made(line)
                 self._rounds += 1
             return answer
         rolled = not self._rolls
         while True:
             rounds = self._rounds
             try:
-                return self._made(given, line)
+                return self._made(line)
             except JournalFull:
                 if rolled:
                     raise
@@ -219,11 +262,8 @@ class Store(Snapshots, Files):
             self.roll(self._journal)
         return True
 
-    def _made(self, command: Mapping[str, object], line: bytes) -> dict[str, Any]:
-        do = command.get("do")
-        kept = do not in _LOOKUPS and not any(command.get(it) is True for it in _WITHOUT_ENTRY)
-        text = self._connection.exchange(line, kept=kept, synced=do not in _QUESTIONS)
-        answer: dict[str, Any] = json.loads(text)
+    def _made(self, line: bytes) -> dict[str, Any]:
+        answer: dict[str, Any] = json.loads(self._connection.exchange(line))
         if error := error_in(answer):
             raise error
         return answer

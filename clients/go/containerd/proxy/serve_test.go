@@ -4,7 +4,6 @@ import (
 	"bytes"
 	"context"
 	"errors"
-	"io/fs"
 	"net"
 	"os"
 	"os/exec"
@@ -48,43 +47,19 @@ func TestWords(t *testing.T) {
 	}
 }
 
-// The socket has its mode and its folder's, and takes the place of one that nobody listens at.
-func TestSocket(t *testing.T) {
-	folder := filepath.Join(t.TempDir(), "run", "pibroulez")
-	path := filepath.Join(folder, "socket")
-	listener, err := listen(path)
+// A root whose store ends a little later is served then.
+func TestRootOfAnotherForAWhile(t *testing.T) {
+	config := containerd.Config{Program: program(), Root: t.TempDir()}
+	before, err := containerd.New(context.Background(), config)
 	granted(t, err)
-	for path, mode := range map[string]fs.FileMode{path: fs.ModeSocket | 0o660, folder: fs.ModeDir | 0o700} {
-		status, err := os.Lstat(path)
-		granted(t, err)
-		if status.Mode() != mode {
-			t.Errorf("%s has mode %v, not %v", path, status.Mode(), mode)
-		}
+	if _, err := containerd.New(context.Background(), config); !errors.Is(err, syscall.EWOULDBLOCK) {
+		t.Errorf("%v: a root of another", err)
 	}
-	if _, err := listen(path); err == nil || !strings.Contains(err.Error(), "another process") {
-		t.Errorf("%v: a socket that another one listens at", err)
-	}
-	listener.(*net.UnixListener).SetUnlinkOnClose(false)
-	granted(t, listener.Close())
-	listener, err = listen(path)
+	ended := time.AfterFunc(200*time.Millisecond, func() { before.Close() })
+	defer ended.Stop()
+	s, err := newOnceFree(context.Background(), config)
 	granted(t, err)
-	granted(t, listener.Close())
-}
-
-// A file in the place of the socket that is none stays as it is.
-func TestFileInPlaceOfSocket(t *testing.T) {
-	folder := t.TempDir()
-	file, link := filepath.Join(folder, "file"), filepath.Join(folder, "link")
-	granted(t, os.WriteFile(file, []byte("kept"), 0o600))
-	granted(t, os.Symlink(file, link))
-	for _, path := range []string{file, link, folder} {
-		if _, err := listen(path); err == nil || !strings.Contains(err.Error(), "is no socket") {
-			t.Errorf("%v: %s in place of a socket", err, path)
-		}
-	}
-	if text, err := os.ReadFile(file); err != nil || string(text) != "kept" {
-		t.Errorf("%q, %v: what was in the place of a socket", text, err)
-	}
+	granted(t, s.Close())
 }
 
 // The proxy as a process: it tells systemd when it serves, and ends with a line and a status where its store is killed.

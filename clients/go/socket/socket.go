@@ -1,4 +1,5 @@
-package main
+// Package socket listens at Unix sockets, as daemons do that are ended and started again.
+package socket
 
 import (
 	"errors"
@@ -11,15 +12,10 @@ import (
 	"time"
 )
 
-// Modes of the socket, and of its folder where that is made.
-const (
-	socketMode = 0o660
-	folderMode = 0o700
-)
-
-// Listens at a path. A socket there that nobody listens at any more is replaced; a file that isn't one stays, and so does
-// the socket of another process.
-func listen(path string) (net.Listener, error) {
+// Listen listens at a path, by a socket of this mode. Its folder, where it is made, has folderMode. A socket there that
+// nobody listens at any more is replaced; a file that isn't one stays, and so does the socket of another process. The
+// process's umask is another one for a moment.
+func Listen(path string, mode, folderMode fs.FileMode) (*net.UnixListener, error) {
 	if err := os.MkdirAll(filepath.Dir(path), folderMode); err != nil {
 		return nil, err
 	}
@@ -27,9 +23,9 @@ func listen(path string) (net.Listener, error) {
 		return nil, err
 	}
 	// The socket has its mode from the beginning, so that nobody else connects before that.
-	mask := syscall.Umask(0o777 &^ socketMode)
+	mask := syscall.Umask(0o777 &^ int(mode))
 	defer syscall.Umask(mask)
-	return net.Listen("unix", path)
+	return net.ListenUnix("unix", &net.UnixAddr{Name: path, Net: "unix"})
 }
 
 // Removes a socket that a killed proxy has left.

@@ -1,0 +1,101 @@
+package main
+
+import (
+	"context"
+	"fmt"
+	"path/filepath"
+	"syscall"
+	"testing"
+	"time"
+
+	snapshotsapi "github.com/containerd/containerd/api/services/snapshots/v1"
+	"github.com/containerd/containerd/errdefs"
+	"github.com/containerd/containerd/namespaces"
+	"github.com/containerd/containerd/snapshots"
+	"github.com/containerd/containerd/snapshots/proxy"
+	"google.golang.org/grpc"
+
+	"pibroulez.example/pibroulez"
+	"pibroulez.example/pibroulez/containerd"
+	"pibroulez.example/pibroulez/pibroulezd/configuration"
+)
+
+func (p place) containerd() string { return fmt.Sprintf("[containerd]\nsocket = %q\n", p.path("grpc")) }
+
+// containerd's own client of a snapshotter, over the socket.
+func (p place) snapshotter(t *testing.T) snapshots.Snapshotter {
+	t.Helper()
+	dialled, cancel := context.WithTimeout(ctx, time.Minute)
+	defer cancel()
+	connection, err := grpc.DialContext(dialled, "unix://"+p.path("grpc"), grpc.WithInsecure(), grpc.WithBlock())
+	granted(t, err)
+	t.Cleanup(func() { connection.Close() })
+	return proxy.NewSnapshotter(snapshotsapi.NewSnapshotsClient(connection), "pibroulez")
+}
+
+// containerd and a builder have one store at once, each its namespace, and find it again after the daemon's end.
+func TestContainerd(t *testing.T) {
+	equal(t, configuration.ContainerdNamespace, containerd.Namespace)
+	p := newPlace(t)
+	p.configure(t, p.containerd()+p.lines()+roles("operator")+tenant("a", 100, 100))
+	it := p.start(t)
+	called := namespaces.WithNamespace(ctx, "test")
+	s, store := p.snapshotter(t), p.connect(t)
+	_, err := s.Prepare(called, "k", "")
+	granted(t, err)
+	_, err = store.Prepare(ctx, "a", "k", "")
+	granted(t, err)
+	granted(t, s.Commit(called, "base", "k"))
+	mounts, err := s.View(called, "view", "base")
+	granted(t, err)
+	// The builder's snapshot has the id between the two.
+	if len(mounts) != 1 || mounts[0].Source != filepath.Join(p.path("root"), "snapshots", "1", "fs") {
+		t.Errorf("%v: mounts of a view", mounts)
+	}
+	tree, err := store.Tree(ctx, containerd.Namespace)
+	granted(t, err)
+	if len(tree) != 2 || tree[0].Key != "base" || tree[1].ID != 3 {
+		t.Errorf("%+v", tree)
+	}
+	it.end(t)
+
+	it = p.start(t)
+	s, store = p.snapshotter(t), p.connect(t)
+	info, err := s.Stat(called, "base")
+	granted(t, err)
+	equal(t, info.Kind, snapshots.KindCommitted)
+	_, err = store.Discard(ctx, "a", "k")
+	granted(t, err)
+	granted(t, s.Remove(called, "view"))
+
+	// The limit of its namespace is the configuration's.
+	p.configure(t, p.containerd()+"blocks = 1\n"+p.lines()+roles("operator")+tenant("a", 100, 100))
+	it.readAgain(t)
+	quota, err := store.Quota(ctx, containerd.Namespace)
+	granted(t, err)
+	equal(t, quota.Limit, pibroulez.Usage{Blocks: 1, Inodes: 1 << 40})
+	if _, err := s.Prepare(called, "k", "base"); !errdefs.IsUnavailable(err) {
+		t.Errorf("%v: a prepare above the limit", err)
+	}
+	granted(t, syscall.Kill(childOf(t, it.Process.Pid), syscall.SIGKILL))
+	equal(t, it.status(t), storeEnded)
+}
+
+// A store that isn't that of the directories isn't served.
+func TestOtherDirectories(t *testing.T) {
+	p := newPlace(t)
+	p.configure(t, p.containerd())
+	it := p.start(t)
+	called := namespaces.WithNamespace(ctx, "test")
+	_, err := p.snapshotter(t).Prepare(called, "k", "")
+	granted(t, err)
+	it.end(t)
+	store, err := pibroulez.Open(ctx, program(), p.path("root/calls.jsonl"))
+	granted(t, err)
+	nodes, err := store.Tree(ctx, containerd.Namespace)
+	granted(t, err)
+	equal(t, len(nodes), 1)
+	granted(t, store.Close())
+	p.configure(t, fmt.Sprintf("log = %q\n", p.path("other"))+p.containerd())
+	isError(t, serve(ctx, quiet(), p.path("pibroulezd.toml"), nil), containerd.ErrMismatch)
+}

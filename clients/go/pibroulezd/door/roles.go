@@ -1,0 +1,57 @@
+package door
+
+import (
+	"encoding/json"
+
+	"pibroulez.example/pibroulez"
+)
+
+// Rights are what a caller's roles let it do. Each adds to the others.
+type Rights struct {
+	// IsOperator is for each command.
+	IsOperator bool
+	// IsQuota is for limits, and for what changes nothing and makes no entry, in each namespace.
+	IsQuota bool
+	// Namespaces are those whose tenant the caller is: for all commands on one of them but `limit`, in session 0.
+	Namespaces map[string]bool
+}
+
+// Whether a line may be sent. A word that isn't known is an operator's alone, since a later store may know it.
+func (r Rights) allow(line pibroulez.Line) bool {
+	if r.IsOperator || r.IsQuota && (line.Do == "limit" || line.IsQuestion()) {
+		return true
+	}
+	var namespace string
+	if !isTenants[line.Do] || !isText(line.Members["ns"]) || json.Unmarshal(line.Members["ns"], &namespace) != nil {
+		return false
+	}
+	session, isThere := line.Members["s"]
+	return r.Namespaces[namespace] && (!isThere || string(session) == "0")
+}
+
+// IsKnown says whether a word is one of a command that the door knows.
+func IsKnown(do string) bool { return isTenants[do] || isShort[do] || do == "report" }
+
+// Commands of a tenant on its namespace.
+var isTenants = setOf(
+	"prepare", "view", "remove", "stat", "update", "usage", "mounts", "walk", "charge", "trim", "commit", "discard",
+	"lease_create", "lease_add", "lease_drop", "lease_release", "sweep",
+	"mkdir", "create", "put", "write", "truncate", "setmode", "symlink", "link", "rename", "unlink", "rmdir", "opaque", "whiteout",
+	"look", "list", "read", "resolve", "du", "quota", "leases", "tree", "diff", "journal",
+)
+
+// Commands whose answers have at most some hundred bytes, but for the ids of the ancestors.
+var isShort = setOf(
+	"session", "reopen", "roll", "prepare", "view", "remove", "usage", "charge", "trim", "commit", "discard",
+	"lease_create", "lease_add", "lease_drop", "lease_release", "limit",
+	"mkdir", "create", "put", "write", "truncate", "setmode", "symlink", "link", "rename", "unlink", "rmdir", "opaque", "whiteout",
+	"du",
+)
+
+func setOf(words ...string) map[string]bool {
+	set := map[string]bool{}
+	for _, it := range words {
+		set[it] = true
+	}
+	return set
+}
