@@ -36,9 +36,7 @@ WITHOUT = {
     "snap_call/Promised.antt": "Promised",
     "snap_call/Records.antt": "record_at is_slot charge_at",
     "snap_call/Step.antt":
-        "place_for slot_for prepared prepare_at prepare view_at prepare_view charge_to charge leases_after committed "
-        "commit_as commit remove_record remove update_record update set_limit_at set_limit lease_create lease_add "
-        "lease_drop lease_release sweep_at sweep",
+        "place_for prepared prepare prepare_view charge leases_after committed commit_as commit sweep_at sweep",
     "snap_history/Changes.antt":
         "with_share no_change change_by change_of recharged_to slot_shares shares_by shares_after is_own",
     "snap_book/Opening.antt": "IsSaid",
