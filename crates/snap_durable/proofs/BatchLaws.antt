@@ -4,6 +4,7 @@ use Rattle.std.specs.Prelude.{if◌then◌else◌, ◌&&◌, ◌||◌, nat_le, l
 use Rattle.snap_lines.specs.Lines.{lines_of, is_open}
 use Rattle.snap_lines.proofs.LineLaws.{line_split, open_more}
 use Rattle.snap_log.specs.Batches.{Batched, batched, emptied, none_yet, with_line, with_byte, is_nothing, is_blank}
+use Rattle.snap_log.proofs.OpenLaws.{batched_more}
 use Rattle.snap_durable.specs.Parts.{whole_in}
 use Rattle.snap_durable.specs.Served.{IsBegun}
 use Rattle.snap_durable.proofs.ServeLaws.{lines_more}
@@ -11,12 +12,6 @@ use Rattle.snap_durable.proofs.ServeLaws.{lines_more}
 branch : {X Y : Type 0} (f : X → Y) (t : Bool) (x y : X) (a b : Y) → a ≡ f x → b ≡ f y → (if t then a else b) ≡ f (if t then x else y)
 branch f true x y a b p q = p
 branch f false x y a b p q = q
-
-batched_more : (s : Batched) (a b : List ℕ) → batched s (a ++ b) ≡ batched (batched s a) b
-batched_more s [] b = refl
-batched_more s (x ∷ a) b =
-    branch (λ (t : Batched). batched t b) (x == 10) (batched (with_line s) a) (batched (with_byte s x) a) (batched (with_line s) (a ++ b)) (batched (with_byte s x) (a ++ b))
-    (batched_more (with_line s) a b) (batched_more (with_byte s x) a b)
 
 -- the same with more before it
 abbrev ahead : List ℕ → Batched → Batched

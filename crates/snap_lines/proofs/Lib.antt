@@ -1,4 +1,5 @@
 pub mod KnownLaws
 pub mod LineLaws
 pub mod TranscriptLaws
+pub mod FeedLaws
 pub mod ReadLaws

@@ -1,7 +1,7 @@
 -- How the transcript of an input goes on.
-use Rattle.std.proofs.Common.{◌≡◌, ℕ, zero, suc, ◌+◌, ◌<◌, ◌≤◌, List, [], ◌∷◌, ◌++◌, length, take, take_all, drop, get_or, Bool, true, false, Result, Ok, Err, refl, sym, ap, ◌∙◌, arith, append_assoc, append-nil, length-append, Option, Some, None, subst, OnOk, IfErr}
+use Rattle.std.proofs.Common.{◌≡◌, ℕ, zero, suc, ◌+◌, ◌<◌, ◌≤◌, List, [], ◌∷◌, ◌++◌, length, take, take_all, drop, get_or, Bool, true, false, not, Result, Ok, Err, refl, sym, ap, ◌∙◌, arith, append_assoc, append-nil, length-append, Option, Some, None, subst, OnOk, IfErr}
 use lib.Seq.{take-append_seam}
-use Rattle.std.specs.Prelude.{cond, is_some, nat_lt, ◌==◌, ◌||◌}
+use Rattle.std.specs.Prelude.{cond, is_some, nat_lt, ◌==◌, ◌&&◌, ◌||◌}
 use Rattle.std.proofs.lemmas.Bool.{lt-ltb, le-ltb, eqb-true}
 use Rattle.std.proofs.lemmas.List.{take_more, take-append-drop}
 use Rattle.std.proofs.lemmas.List.Sums.{sum_by-append}
@@ -11,7 +11,7 @@ use Rattle.snap_script.specs.declared.fault.Fault.{Fault}
 use Rattle.snap_script.specs.declared.fault.Fault.TheVariants.{TooLong}
 use Rattle.snap_path.specs.declared.memory.NoMemory.{NoMemory}
 use Rattle.snap_lines.proofs.KnownLaws.{Appends-trans, Appends-kept, Appends-nil}
-use Rattle.snap_lines.proofs.LineLaws.{line_split, line_last, line_begins, Begins, begins_both, feed_ended, feed_open, feed_after, feed_long, open_more}
+use Rattle.snap_lines.proofs.LineLaws.{open_cons, line_split, line_last, line_begins, Begins, begins_both, feed_ended, feed_open, feed_after, feed_long, open_more}
 use Rattle.snap_lines.specs.Effects.{Effect, Effects}
 use Rattle.snap_lines.specs.Lines.{lines_of, is_open, without_feed, feeds}
 use Rattle.snap_script.specs.Lines.{max_line}
@@ -226,23 +226,37 @@ newline_breaks effect r e x y o is b = λ rest.
 no_feeds : (b : ℕ) → (b == 10) ≡ false → feeds (b ∷ []) ≡ 0
 no_feeds b e = ap (λ t. 0 + cond t 1 0) e
 
-byte_goes : {A : Type 0} (effect : Effects A) (r : Run A) (b : ℕ) (x : Option (List ℕ)) → (b == 10) ≡ false → Goes effect r (b ∷ []) (record r { pending = r.pending ++ b ∷ [] }) x x
+open_feeds : (bytes : List ℕ) → is_open bytes ≡ true → feeds bytes ≡ 0
+open_feeds [] h = refl
+open_feeds (b ∷ bytes) h =
+    let o = open_cons b bytes h in
+    let both : feeds (b ∷ bytes) ≡ feeds (b ∷ []) + feeds bytes = feeds_append (b ∷ []) bytes in
+    let first = no_feeds b o.head in
+    let rest = open_feeds bytes o.tail in
+    omega arith
+
+open_goes : {A : Type 0} (effect : Effects A) (r : Run A) (bytes : List ℕ) (x : Option (List ℕ)) → is_open bytes ≡ true → Goes effect r bytes (record r { pending = r.pending ++ bytes }) x x
 unfolding transcript_on
-byte_goes effect r b x e = record {
+open_goes effect r bytes x o = record {
   written = [];
   leads = λ n rest.
-      ap (λ k. transcript_from effect r.place (some_of (and_more k n) (lines_of (r.pending ++ b ∷ rest)))) (no_feeds b e)
-      ∙ ap (λ k. transcript_from effect r.place (some_of k (lines_of (r.pending ++ b ∷ rest)))) (no_more n)
-      ∙ ap (λ l. transcript_from effect r.place (some_of n (lines_of l))) (sym (append_assoc r.pending (b ∷ []) rest));
+      ap (λ k. transcript_from effect r.place (some_of (and_more k n) (lines_of (r.pending ++ (bytes ++ rest))))) (open_feeds bytes o)
+      ∙ ap (λ k. transcript_from effect r.place (some_of k (lines_of (r.pending ++ (bytes ++ rest))))) (no_more n)
+      ∙ ap (λ l. transcript_from effect r.place (some_of n (lines_of l))) (sym (append_assoc r.pending bytes rest));
   appended = Appends-nil x;
 }
 
-pub byte_run : {A : Type 0} (effect : Effects A) (v : A) (n : ℕ) (left : Option ℕ) (p q : List ℕ) (s : Behind) → behind n left p ≡ s → (b : ℕ) (x : Option (List ℕ)) → (b == 10) ≡ false → q ≡ p ++ b ∷ []
-    → Goes effect (within s v) (b ∷ []) (within (behind n left q) v) x x
-byte_run effect v n left p q s e b x no_feed h =
-    let is : within (behind s.lines s.left (s.pending ++ b ∷ [])) v ≡ within (behind n left q) v =
-    ap (λ (z : Behind). within (behind z.lines z.left (z.pending ++ b ∷ [])) v) (sym e) ∙ ap (λ l. within (behind n left l) v) (sym h) in
-    subst (λ z. Goes effect (within s v) (b ∷ []) z x x) is (byte_goes effect (within s v) b x no_feed)
+-- bytes without a line feed
+pub open_run : {A : Type 0} (effect : Effects A) (v : A) (n : ℕ) (left : Option ℕ) (p q : List ℕ) (s : Behind) → behind n left p ≡ s → (bytes : List ℕ) (x : Option (List ℕ)) → is_open bytes ≡ true → q ≡ p ++ bytes
+    → Goes effect (within s v) bytes (within (behind n left q) v) x x
+open_run effect v n left p q s e bytes x o h =
+    let is : within (behind s.lines s.left (s.pending ++ bytes)) v ≡ within (behind n left q) v =
+    ap (λ (z : Behind). within (behind z.lines z.left (z.pending ++ bytes)) v) (sym e) ∙ ap (λ l. within (behind n left l) v) (sym h) in
+    subst (λ z. Goes effect (within s v) bytes z x x) is (open_goes effect (within s v) bytes x o)
+
+-- one byte that is no line feed
+pub open_one : (b : ℕ) → (b == 10) ≡ false → is_open (b ∷ []) ≡ true
+open_one b e = ap (λ t. not t && true) e
 
 -- ---- a byte of a line that is cut
 

@@ -1,6 +1,7 @@
 // Where a run stands within an input, and the step of one line.
 ghost use Rattle.std.specs.Prelude.{None, ◌≡◌, ◌<◌, [], ◌∷◌, length, false, Ok, Err, OnOk, IfOk, IfErr};
 ghost use Rattle.std.specs.Io.KnownBytes.{Appends};
+ghost use Rattle.memchr.specs.Find.{IsFirstByte, is_byte};
 ghost use Rattle.snap_path.specs.declared.memory.NoMemory.{NoMemory};
 ghost use Rattle.snap_lines.specs.Effects.{effect_with, text_bytes};
 ghost use Rattle.snap_lines.specs.Transcripts.{Tells, next_line, passes, left_after};
@@ -8,6 +9,7 @@ ghost use Rattle.snap_lines.specs.Runs.{nothing, within, transcript_on, line_in,
 
 use crate::stop::{LineFault, Stop};
 use crate::take::TakeLine;
+use memchr::memchr;
 use snap_script::{Fault, MAX_LINE_BYTES, ReadError};
 use std::alloc::Global;
 use std::io::{ErrorKind, Write};
@@ -169,12 +171,10 @@ impl Reader {
         ensures err { IfErr result (λ stop. StopsIn T.effect (within self.old taker.old) (b ∷ []) stop
             (W.contents output.old) (W.contents output.new)) }
     {
-        // With a field read, the proof knows the type's invariant.
-        let _ = &self.alloc;
+        let len = self.pending.as_slice().len();
         if b == b'\n' {
             return self.take_line(true, taker, output);
         }
-        let len = self.pending.as_slice().len();
         if len > MAX_LINE_BYTES {
             return Ok(());
         }
@@ -182,6 +182,45 @@ impl Reader {
             return Err(fault(self.lines, Fault::TooLong));
         }
         self.pending.push(b)?;
+        Ok(())
+    }
+
+    // Takes the bytes one by one.
+    fn take_bytes<T: TakeLine, W: Write>(
+        &mut self,
+        bytes: &[u8],
+        taker: &mut T,
+        output: &mut W,
+    ) -> Result<(), Stop>
+        ensures ok { OnOk result (Goes T.effect (within self.old taker.old) bytes.now (within self.new taker.new)
+            (W.contents output.old) (W.contents output.new)) }
+        ensures err { IfErr result (λ stop. StopsIn T.effect (within self.old taker.old) bytes.now stop
+            (W.contents output.old) (W.contents output.new)) }
+    {
+        for b in bytes {
+            self.take_byte(*b, taker, output)?;
+        }
+        Ok(())
+    }
+
+    // Takes bytes without a line feed.
+    fn take_open<T: TakeLine, W: Write>(
+        &mut self,
+        bytes: &[u8],
+        taker: &mut T,
+        output: &mut W,
+    ) -> Result<(), Stop>
+        requires { IsFirstByte (is_byte 10) bytes.now None }
+        ensures ok { OnOk result (Goes T.effect (within self.old taker.old) bytes.now (within self.new taker.new)
+            (W.contents output.old) (W.contents output.new)) }
+        ensures err { IfErr result (λ stop. StopsIn T.effect (within self.old taker.old) bytes.now stop
+            (W.contents output.old) (W.contents output.new)) }
+    {
+        let len = self.pending.as_slice().len();
+        if bytes.len() > MAX_LINE_BYTES.saturating_sub(len) {
+            return self.take_bytes(bytes, taker, output);
+        }
+        self.pending.extend_from_slice(bytes)?;
         Ok(())
     }
 
@@ -197,9 +236,14 @@ impl Reader {
         ensures err { IfErr result (λ stop. StopsIn T.effect (within self.old taker.old) bytes.now stop
             (W.contents output.old) (W.contents output.new)) }
     {
-        for b in bytes {
-            self.take_byte(*b, taker, output)?;
+        let mut from = 0;
+        'lines: while let Some(n) = memchr(b'\n', &bytes[from..]) {
+            let end = from + n;
+            self.take_open(&bytes[from..end], taker, output)?;
+            self.take_byte(b'\n', taker, output)?;
+            from = end + 1;
         }
+        self.take_open(&bytes[from..], taker, output)?;
         Ok(())
     }
 

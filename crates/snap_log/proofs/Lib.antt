@@ -1,3 +1,4 @@
 pub mod TextLaws
 pub mod GateLaws
 pub mod ScanLaws
+pub mod OpenLaws

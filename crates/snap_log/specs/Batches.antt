@@ -1,5 +1,5 @@
 -- What becomes of an input that comes in pieces.
-use Rattle.std.specs.Prelude.{ℕ, ◌==◌, Bool, ◌&&◌, ◌||◌, nat_le, List, [], ◌∷◌, ◌++◌, length, if◌then◌else◌}
+use Rattle.std.specs.Prelude.{ℕ, ◌==◌, Bool, false, ◌&&◌, ◌||◌, nat_le, List, [], ◌∷◌, ◌++◌, length, if◌then◌else◌}
 
 -- the most bytes that are kept of a line, the whole lines, and the line that has begun
 pub record Batched : Type 0 where
@@ -31,6 +31,11 @@ with_byte s b = if (is_nothing s.held && is_blank b) || nat_le s.limit (length s
 abbrev pub batched : Batched → List ℕ → Batched
 batched s [] = s
 batched s (b ∷ bytes) = if b == 10 then batched (with_line s) bytes else batched (with_byte s b) bytes
+
+-- these bytes come before a line and begin with a blank
+abbrev pub begins_blank : Batched → List ℕ → Bool
+begins_blank s [] = false
+begins_blank s (b ∷ bytes) = is_nothing s.held && is_blank b
 
 -- the whole lines are dropped
 abbrev pub emptied : Batched → Batched

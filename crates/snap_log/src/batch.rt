@@ -1,7 +1,9 @@
 // The whole lines of an input that comes in pieces.
-ghost use Rattle.std.specs.Prelude.{◌≡◌, ◌∷◌, ◌<◌, [], ℕ, List, length, OnOk, IsTrue};
-ghost use Rattle.snap_log.specs.Batches.{batched, emptied, is_blank, none_yet};
+ghost use Rattle.std.specs.Prelude.{◌≡◌, ◌∷◌, ◌<◌, [], ℕ, List, length, None, OnOk, IsTrue};
+ghost use Rattle.memchr.specs.Find.{IsFirstByte, is_byte};
+ghost use Rattle.snap_log.specs.Batches.{batched, begins_blank, emptied, is_blank, none_yet};
 
+use memchr::memchr;
 use std::alloc::{AllocError, Global};
 use std::marker::Model;
 
@@ -61,6 +63,42 @@ impl Batch {
         Ok(())
     }
 
+    // Takes the bytes one by one.
+    fn take_bytes(&mut self, bytes: &[u8]) -> Result<(), AllocError>
+        ensures { OnOk result (self.new ≡ batched self.old bytes.now) }
+    {
+        for b in bytes {
+            self.take_byte(*b)?;
+        }
+        Ok(())
+    }
+
+    // Whether these bytes come before a line and begin with a blank.
+    fn begins_blank(&self, bytes: &[u8]) -> bool
+        ensures { result ≡ begins_blank self.now bytes.now }
+    {
+        match bytes.first() {
+            Some(b) => self.held.is_empty() && is_blank(*b),
+            None => false,
+        }
+    }
+
+    // Takes bytes without a line feed.
+    fn take_open(&mut self, bytes: &[u8]) -> Result<(), AllocError>
+        requires { IsFirstByte (is_byte 10) bytes.now None }
+        ensures { OnOk result (self.new ≡ batched self.old bytes.now) }
+    {
+        let left = self.limit.saturating_sub(self.held.len());
+        if bytes.len() > left {
+            return self.take_bytes(bytes);
+        }
+        if self.begins_blank(bytes) {
+            return self.take_bytes(bytes);
+        }
+        self.held.extend_from_slice(bytes)?;
+        Ok(())
+    }
+
     /// Takes the bytes that come next.
     ///
     /// `AllocError` where memory was refused. Nothing is said of the lines then. The memory grows with the bytes of the
@@ -68,9 +106,14 @@ impl Batch {
     pub fn take(&mut self, bytes: &[u8]) -> Result<(), AllocError>
         ensures { OnOk result (self.new ≡ batched self.old bytes.now) }
     {
-        for b in bytes {
-            self.take_byte(*b)?;
+        let mut from = 0;
+        'lines: while let Some(n) = memchr(b'\n', &bytes[from..]) {
+            let end = from + n;
+            self.take_open(&bytes[from..end])?;
+            self.end_line()?;
+            from = end + 1;
         }
+        self.take_open(&bytes[from..])?;
         Ok(())
     }
 

@@ -10,7 +10,7 @@ use Rattle.snap_lines.specs.Transcripts.{next_line}
 use Rattle.snap_lines.specs.Runs.{Behind, within, kept_length, Goes, StopsIn}
 use Rattle.snap_lines.specs.declared.stop.Stop.{Stop}
 use Rattle.snap_lines.specs.declared.stop.Stop.TheVariants.{OutOfMemory}
-use Rattle.snap_lines.proofs.TranscriptLaws.{on_ok, if_err, err_is, newline_goes, newline_stops, byte_run, cut_goes, is_cut, long_ends, stops_before}
+use Rattle.snap_lines.proofs.TranscriptLaws.{on_ok, if_err, err_is, newline_goes, newline_stops, open_one, open_run, cut_goes, is_cut, long_ends, stops_before}
 use Rattle.snap_lines.proofs.reader.Reader.take_byte.Goals as goal
 
 pub returns-then-b-eq10-clause-ok : goal.returns-then-b-eq10-clause-ok
@@ -31,7 +31,7 @@ returns-then-b-eq10-clause-err g c =
     (sym c.if-b-eq10.true) (newline_stops effect old stop _ _ no_feed h)) c.take_line.ensures.err
 
 pub returns-clause-ok : goal.returns-clause-ok
-returns-clause-ok g c = byte_run g.T.TakeLine.effect c.args.taker.now _ _ _ _ _ c.self.view_is c.args.b _ (ne_eqb _ _ c.if-b-eq10.false) c.in_ok-push.ensures.items
+returns-clause-ok g c = open_run g.T.TakeLine.effect c.args.taker.now _ _ _ _ _ c.self.view_is (c.args.b ∷ []) _ (open_one c.args.b (ne_eqb _ _ c.if-b-eq10.false)) c.in_ok-push.ensures.items
 
 pub returns-then-len-gt-MAX_LINE_BYTES-clause-ok : goal.returns-then-len-gt-MAX_LINE_BYTES-clause-ok
 returns-then-len-gt-MAX_LINE_BYTES-clause-ok g c =

@@ -1,6 +1,9 @@
-use Rattle.std.proofs.Common.{◌≡◌, drop}
+use Rattle.std.proofs.Common.{◌≡◌, ◌≤◌, ◌-◌, length, drop}
 use Rattle.snap_log.specs.Batches.{batched}
 use Rattle.snap_log.proofs.batch.Batch.take.Given as goal
 
-abbrev pub invariant-loop-b : goal.invariant-loop-b
-invariant-loop-b l = batched l.self (drop l.b-index l.bytes) ≡ batched l.initial.self l.bytes
+abbrev pub invariant-lines : goal.invariant-lines
+invariant-lines l = (l.from ≤ length l.bytes) × (batched l.self (drop l.from l.bytes) ≡ batched l.initial.self l.bytes)
+
+abbrev pub decreases-lines : goal.decreases-lines
+decreases-lines l = length l.bytes - l.from
