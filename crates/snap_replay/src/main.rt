@@ -154,12 +154,12 @@ fn status<T: Eprint>(rt: &T, ended: Result<(), Ended>) -> u8
 }
 
 // The same of a server over a log.
-fn log_status<T: Eprint>(rt: &T, ended: Result<(), LogStop>) -> u8 {
-    match ended {
+fn log_status<T: Eprint>(rt: &T, served: Result<(), LogStop>) -> u8 {
+    match served {
         Ok(()) => 0,
-        Err(stop) => {
-            let _ = rt.eprintln(&stop);
-            stop.status()
+        Err(why) => {
+            let _ = rt.eprintln(&why);
+            why.status()
         }
     }
 }

@@ -30,6 +30,9 @@ use Rattle.snap_script.specs.declared.answer.Shown.TheVariants as shown
 use Rattle.snap_script.specs.declared.answer.QuotaInfo.{QuotaInfo}
 use Rattle.snap_script.specs.declared.answer.TreeNode.{TreeNode}
 use Rattle.snap_script.specs.declared.answer.JournalEntry.{JournalEntry}
+use Rattle.snap_script.specs.declared.answer.RefusedOperation.{RefusedOperation}
+use Rattle.snap_script.specs.declared.refused.Refused.{Refused}
+use Rattle.snap_script.specs.declared.refused.Refused.TheVariants as refused
 use Rattle.snap_script.specs.declared.answer.Answer.{Answer}
 use Rattle.snap_script.specs.declared.answer.Answer.TheVariants as answers
 use Rattle.snap_script.specs.declared.unknown.FieldRule.{FieldRule}
@@ -72,6 +75,25 @@ error_name errors.LayerFull = codes "LayerFull"
 error_name (errors.NeedsCharge after) = codes "NeedsCharge"
 error_name errors.TooManyLinks = codes "TooManyLinks"
 error_name (errors.OutOfMemory want) = codes "OutOfMemory"
+
+-- the name of a refusal, as its answer has it
+abbrev pub refused_name : Refused → List ℕ
+refused_name (refused.Book why) = refusal_name why
+refused_name (refused.File error) = error_name error
+refused_name refused.NoSession = codes "NoSession"
+refused_name refused.NoHand = codes "NoHand"
+refused_name refused.StillOut = codes "StillOut"
+
+-- where it is from, as its answer has it
+abbrev pub refused_from : Refused → List ℕ
+refused_from (refused.Book why) = codes "book"
+refused_from (refused.File error) = codes "file"
+refused_from why = codes "world"
+
+-- what the namespace has free, where a call was over its limit
+abbrev pub free_at_refusal : Refused → Option Usage
+free_at_refusal (refused.Book (refusals.OverLimit free_blocks free_inodes)) = Some (record { blocks = free_blocks; inodes = free_inodes })
+free_at_refusal why = None
 
 -- a number that isn't negative
 abbrev pub number_data : ℕ → Data
@@ -219,12 +241,28 @@ reply_data replies.Opened = object (only (codes "ok") (boolean true))
 reply_data replies.Trimmed = object (only (codes "ok") (boolean true))
 reply_data replies.Done = object (only (codes "ok") (boolean true))
 
+-- how far a batch came: how many operations were done, and the layer's count and the snapshot's charge after them; and where one was refused, why, over the limit with what is free, and which, from 1
+abbrev pub batch_data : ℕ → Usage → Usage → Option RefusedOperation → Data
+batch_data done count share None = object
+    (member (codes "count") (usage_data count)
+    (member (codes "done") (number_data done)
+    (only (codes "share") (usage_data share))))
+batch_data done count share (Some operation) = object
+    (member (codes "count") (usage_data count)
+    (member (codes "done") (number_data done)
+    (member (codes "error") (string (refused_name operation.why))
+    (maybe (codes "free") (option_map usage_data (free_at_refusal operation.why))
+    (member (codes "from") (string (refused_from operation.why))
+    (member (codes "op") (number_data operation.number)
+    (only (codes "share") (usage_data share))))))))
+
 -- an answer: a reply has its own data, and the bytes of a file are in lower hexadecimal
 abbrev pub answer_data : Answer → Data
 answer_data (answers.Reply reply) = reply_data reply
 answer_data (answers.Session session) = object (only (codes "session") (number_data session))
 answer_data (answers.Share share) = object (only (codes "share") (usage_data share))
 answer_data (answers.Changed count share) = object (member (codes "count") (usage_data count) (only (codes "share") (usage_data share)))
+answer_data (answers.Batch done count share stopped) = batch_data done count share stopped
 answer_data (answers.Seen seen) = object (only (codes "seen") (shown_data seen))
 answer_data (answers.Names names) = object (only (codes "names") (array (items_of (map string names))))
 answer_data (answers.Head head size) = object (member (codes "head") (string (encode_lower head)) (only (codes "size") (number_data size)))

@@ -22,6 +22,7 @@ changes_store (commands.Trim namespace key) = true
 changes_store (commands.Commit namespace key name lease labels) = true
 changes_store (commands.Discard namespace key) = true
 changes_store (commands.File namespace key operation extra) = true
+changes_store (commands.Batch namespace key need ops) = true
 changes_store (commands.Lookup namespace key asked path peek) = false
 changes_store (commands.TrySweep namespace moment) = false
 changes_store (commands.ChainUsage namespace key) = false

@@ -22,12 +22,13 @@ use Rattle.snap_script.specs.declared.command.Command.{Command}
 use Rattle.snap_script.specs.declared.command.Command.TheVariants as commands
 use Rattle.snap_script.specs.declared.command.Lookup.{Lookup}
 use Rattle.snap_script.specs.declared.command.Lookup.TheVariants as lookups
+use Rattle.snap_script.specs.declared.unknown.FieldRule.{FieldRule}
 use Rattle.snap_script.specs.declared.verb.Verb.{Verb}
 use Rattle.snap_script.specs.declared.verb.Verb.TheVariants as verbs
 use Rattle.snap_script.specs.declared.verb.LookupVerb.{LookupVerb}
 use Rattle.snap_script.specs.declared.verb.LookupVerb.TheVariants as lookup_verbs
 use Rattle.snap_script.specs.Fields.{text, required, optional, given, as_natural, as_usage, as_texts, as_kind, as_labels, as_label_filters, as_namespaces, labels_of_update}
-use Rattle.snap_script.specs.Operations.{path_in, file_operation}
+use Rattle.snap_script.specs.Operations.{path_in, file_operation, operations}
 
 -- the snapshot that a command names: its namespace and its key
 unfoldable pub named : Data → Result (Bytes × Bytes) Fault
@@ -95,17 +96,26 @@ lookup_of lookup_verbs.Read line = do Ok (read_asked (← given as_natural field
 lookup_of lookup_verbs.Resolve line = Ok lookups.Resolve
 lookup_of lookup_verbs.Usage line = Ok lookups.Usage
 
--- the command of a line by its verb; a file command and a lookup are on a snapshot s
-unfoldable pub command_of : Verb → Data → Result Command Fault
-command_of verbs.Open line = do Ok (commands.Open (← config_of line))
-command_of verbs.Reopen line = do Ok (commands.Reopen (← optional as_natural fields.Journal (Ok max_journal) line))
-command_of verbs.Roll line = do Ok (commands.Roll (← optional as_natural fields.Journal (Ok max_journal) line))
-command_of (verbs.Call kind) line = call_of kind line
-command_of (verbs.File verb) line = do s ← named line; Ok (commands.File s.0 s.1 (← file_operation verb line) (← optional as_usage fields.Extra (Ok (record { blocks = 0; inodes = 0 })) line))
-command_of (verbs.Lookup verb) line = do s ← named line; path ← path_in fields.Path line; asked ← lookup_of verb line; Ok (commands.Lookup s.0 s.1 asked path (← optional as_bool fields.Peek (Ok false) line))
-command_of verbs.Quota line = do Ok (commands.Quota (← given as_str fields.Namespace line))
-command_of verbs.Leases line = do Ok (commands.Leases (← text fields.Namespace line) (← given as_str fields.Lease line))
-command_of verbs.Tree line = do Ok (commands.Tree (← text fields.Namespace line))
-command_of verbs.Diff line = do s ← named line; Ok (commands.Diff s.0 s.1 (← optional as_str fields.After (Ok []) line) (← optional as_natural fields.Most (Ok 64) line))
-command_of verbs.Journal line = do Ok (commands.Journal (← given as_str fields.Namespace line) (← optional as_natural fields.After (Ok 0) line) (← optional as_natural fields.Most (Ok 64) line) (← optional as_bool fields.Full (Ok false) line))
-command_of verbs.Report line = Ok commands.Report
+-- a batch on a snapshot s: what it charges, and the operations, as a job has them
+unfoldable pub batch_of : FieldRule → Data → Result Command Fault
+batch_of rule line = do s ← named line; need ← required as_usage fields.Need line; Ok (commands.Batch s.0 s.1 need (← operations rule line))
+
+-- the question for a snapshot's changes
+unfoldable pub diff_of : Data → Result Command Fault
+diff_of line = do s ← named line; Ok (commands.Diff s.0 s.1 (← optional as_str fields.After (Ok []) line) (← optional as_natural fields.Most (Ok 64) line))
+
+-- the command of a line by its verb, and by the fields that its operations may have; a file command and a lookup are on a snapshot s
+unfoldable pub command_of : FieldRule → Verb → Data → Result Command Fault
+command_of rule verbs.Open line = do Ok (commands.Open (← config_of line))
+command_of rule verbs.Reopen line = do Ok (commands.Reopen (← optional as_natural fields.Journal (Ok max_journal) line))
+command_of rule verbs.Roll line = do Ok (commands.Roll (← optional as_natural fields.Journal (Ok max_journal) line))
+command_of rule (verbs.Call kind) line = call_of kind line
+command_of rule (verbs.File verb) line = do s ← named line; Ok (commands.File s.0 s.1 (← file_operation verb line) (← optional as_usage fields.Extra (Ok (record { blocks = 0; inodes = 0 })) line))
+command_of rule verbs.Batch line = batch_of rule line
+command_of rule (verbs.Lookup verb) line = do s ← named line; path ← path_in fields.Path line; asked ← lookup_of verb line; Ok (commands.Lookup s.0 s.1 asked path (← optional as_bool fields.Peek (Ok false) line))
+command_of rule verbs.Quota line = do Ok (commands.Quota (← given as_str fields.Namespace line))
+command_of rule verbs.Leases line = do Ok (commands.Leases (← text fields.Namespace line) (← given as_str fields.Lease line))
+command_of rule verbs.Tree line = do Ok (commands.Tree (← text fields.Namespace line))
+command_of rule verbs.Diff line = diff_of line
+command_of rule verbs.Journal line = do Ok (commands.Journal (← given as_str fields.Namespace line) (← optional as_natural fields.After (Ok 0) line) (← optional as_natural fields.Most (Ok 64) line) (← optional as_bool fields.Full (Ok false) line))
+command_of rule verbs.Report line = Ok commands.Report

@@ -12,8 +12,7 @@ use Rattle.snap_script.specs.declared.fault.ReadError.{ReadError}
 use Rattle.snap_script.specs.declared.fault.ReadError.TheVariants as errors
 use Rattle.snap_script.specs.declared.unknown.FieldRule.{FieldRule}
 use Rattle.snap_script.specs.declared.unknown.FieldRule.TheVariants as rules
-use Rattle.snap_script.specs.Answers.{config_field_name}
-use Rattle.snap_script.specs.Refusals.{refused_name}
+use Rattle.snap_script.specs.Answers.{config_field_name, refused_name}
 
 -- a field's name, as it stands in a line
 abbrev pub field_name : Field → List ℕ

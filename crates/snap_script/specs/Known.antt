@@ -62,6 +62,7 @@ fields_of (verbs.Call kinds.LeaseDrop) = fields.Namespace ∷ fields.Lease ∷ f
 fields_of (verbs.Call kinds.LeaseRelease) = fields.Namespace ∷ fields.Lease ∷ []
 fields_of (verbs.Call kinds.Sweep) = fields.Namespace ∷ fields.Moment ∷ fields.Try ∷ []
 fields_of (verbs.File verb) = fields.Namespace ∷ fields.Key ∷ fields.Extra ∷ operation_fields verb
+fields_of verbs.Batch = fields.Namespace ∷ fields.Key ∷ fields.Need ∷ fields.Ops ∷ []
 fields_of (verbs.Lookup lookup_verbs.Look) = fields.Namespace ∷ fields.Key ∷ fields.Path ∷ fields.Peek ∷ []
 fields_of (verbs.Lookup lookup_verbs.List) = fields.Namespace ∷ fields.Key ∷ fields.Path ∷ fields.Peek ∷ []
 fields_of (verbs.Lookup lookup_verbs.Read) = fields.Namespace ∷ fields.Key ∷ fields.Path ∷ fields.Peek ∷ fields.Offset ∷ fields.Most ∷ []

@@ -57,7 +57,7 @@ command_in rule opened line = do
   verb ← allowed opened (← text fields.Do line)
   known ← known_fields rule verb line
   session ← optional as_natural fields.Session (Ok 0) line
-  Ok (lines.Command session (← command_of verb line))
+  Ok (lines.Command session (← command_of rule verb line))
 
 -- what was read, with a fault as the rule tells it
 abbrev pub told_by_rule : {A : Type 0} → FieldRule → Result A Fault → Result A Fault

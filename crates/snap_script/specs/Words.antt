@@ -46,6 +46,7 @@ words =
     ∷ (codes "whiteout", verbs.File (file_verbs.At path_verbs.Whiteout))
     ∷ (codes "link", verbs.File file_verbs.Link)
     ∷ (codes "rename", verbs.File file_verbs.Rename)
+    ∷ (codes "batch", verbs.Batch)
     ∷ (codes "look", verbs.Lookup lookup_verbs.Look)
     ∷ (codes "list", verbs.Lookup lookup_verbs.List)
     ∷ (codes "read", verbs.Lookup lookup_verbs.Read)

@@ -3,6 +3,8 @@ ghost use Rattle.snap_call.specs.declared.reply.Reply.TheVariants as replies;
 ghost use Rattle.snap_script.specs.Answers.{answer_data, answer_line, answer_told, change_data, node_data, quota_data, shown_data};
 ghost use Rattle.snap_script.specs.declared.answer.Answer.TheVariants as answers;
 
+use crate::batch::batch_done;
+use crate::refused::Refused;
 use crate::to_json::{ToJson, member, only, pair};
 use crate::unknown::FieldRule;
 use crate::values::{bad_config, error, error_name, jobs, quotas, report, sized};
@@ -138,6 +140,14 @@ pub struct JournalEntry {
     pub line: Option<Text>,
 }
 
+/// Why an operation of a batch was refused.
+#[derive(Clone, Copy)]
+pub struct RefusedOperation {
+    /// The operation's number in its batch, from 1.
+    pub number: u64,
+    pub why: Refused,
+}
+
 /// What a line of a script is answered, and the lines of a script of jobs together.
 pub enum Answer {
     /// What the store replies to a call, each reply with members of its own:
@@ -167,6 +177,16 @@ pub enum Answer {
     Changed {
         count: Usage,
         share: Usage,
+    },
+    /// How many operations of a batch were done, with the layer's count and the snapshot's charge after them:
+    /// `{"count":[4,3],"done":2,"share":[9,9]}`; and where one was refused, why and which:
+    /// `{"count":[4,3],"done":2,"error":"NotFound","from":"file","op":3,"share":[9,9]}`, over the limit with what is
+    /// free, `{"count":[4,3],"done":2,"error":"OverLimit","free":[5,0],"from":"book","op":3,"share":[4,3]}`.
+    Batch {
+        done: u64,
+        count: Usage,
+        share: Usage,
+        refused: Option<RefusedOperation>,
     },
     /// What is seen at a path: `{"seen":null}`, `{"seen":{"dir":493}}`, `{"seen":{"file":420,"size":5000}}`,
     /// `{"seen":{"digest":"sha256:ab","file":493,"size":5000000}}`, with null where nobody knows the digest, and
@@ -240,6 +260,7 @@ pub enum Answer {
     StillOut,
 }
 
+// By hand: a derived one is proved anew, part by part, wherever a value is let go.
 impl Drop for Answer {
     fn drop(self) {
         match self {
@@ -247,6 +268,12 @@ impl Drop for Answer {
             Answer::Session(_) => {}
             Answer::Share(_) => {}
             Answer::Changed { count: _, share: _ } => {}
+            Answer::Batch {
+                done: _,
+                count: _,
+                share: _,
+                refused: _,
+            } => {}
             Answer::Seen(_) => {}
             Answer::Names(_) => {}
             Answer::Head { head: _, size: _ } => {}
@@ -325,6 +352,12 @@ impl ToJson for Answer {
             Answer::Session(number) => only(alloc, out, "session", number),
             Answer::Share(amount) => only(alloc, out, "share", amount),
             Answer::Changed { count, share } => pair(alloc, out, "count", count, "share", share),
+            Answer::Batch {
+                done,
+                count,
+                share,
+                refused,
+            } => batch_done(alloc, out, *done, *count, *share, *refused),
             Answer::Seen(shown) => only(alloc, out, "seen", shown),
             Answer::Names(own) => only(alloc, out, "names", own),
             Answer::Head { head, size } => {

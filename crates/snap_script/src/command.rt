@@ -66,6 +66,14 @@ pub enum Command {
         operation: Option<Op>,
         extra: Usage,
     },
+    /// Charges an active snapshot for what is needed, and then carries out file operations on it, in order, up to the
+    /// first that is refused.
+    Batch {
+        namespace: Text,
+        key: Text,
+        need: Usage,
+        ops: Sequence<Op>,
+    },
     /// Asks what an active snapshot or a view shows at a path, and where it may be peeked at, what a committed one
     /// would. There is no path where its text is none.
     Lookup {
@@ -161,7 +169,8 @@ impl Command {
             | Command::Trim { .. }
             | Command::Commit { .. }
             | Command::Discard { .. }
-            | Command::File { .. } => true,
+            | Command::File { .. }
+            | Command::Batch { .. } => true,
             Command::Ask(_)
             | Command::Lookup { .. }
             | Command::TrySweep { .. }

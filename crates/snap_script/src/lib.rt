@@ -10,6 +10,7 @@
 #![tactic(auto)]
 
 mod answer;
+mod batch;
 mod calls;
 mod command;
 mod fault;
@@ -26,7 +27,7 @@ mod unknown;
 mod values;
 mod verb;
 
-pub use answer::{Answer, JournalEntry, QuotaInfo, Shown, TreeNode};
+pub use answer::{Answer, JournalEntry, QuotaInfo, RefusedOperation, Shown, TreeNode};
 pub use calls::call_line;
 pub use command::{Command, Lookup, names_of};
 pub use fault::{Fault, Field, Found, OperationFault, ReadError};

@@ -102,7 +102,7 @@ pub(crate) fn command_in(
     let verb = allowed(alloc, opened, word)?;
     known_fields(alloc, rule, verb, line)?;
     let session = number_or(0, Field::Session, line)?;
-    let command = command_of(alloc, verb, line)?;
+    let command = command_of(alloc, rule, verb, line)?;
     Ok(Line::Command { session, command })
 }
 

@@ -2,10 +2,10 @@
 ghost use Rattle.std.specs.Prelude.{◌≡◌};
 ghost use Rattle.snap_json.specs.View.{view};
 ghost use Rattle.snap_history.specs.declared.kind.CallKind.TheVariants as kinds;
-ghost use Rattle.snap_script.specs.Commands.{named, config_of, filter_of, asked_as, asked_by, call_of, read_asked, lookup_of, command_of};
+ghost use Rattle.snap_script.specs.Commands.{named, config_of, filter_of, asked_as, asked_by, call_of, read_asked, lookup_of, diff_of, command_of};
 ghost use Rattle.snap_script.specs.Gives.{Gives};
-ghost use Rattle.snap_script.specs.declared.verb.Verb.TheVariants as verbs;
 
+use crate::batch::batch;
 use crate::command::{Command, Lookup};
 use crate::fault::{Fault, Field, ReadError};
 use crate::fields::{
@@ -14,6 +14,7 @@ use crate::fields::{
     required_usage, text, text_or_empty, usage_or,
 };
 use crate::operation::{file_operation, path_in};
+use crate::unknown::FieldRule;
 use crate::verb::{LookupVerb, Verb};
 use snap_call::limits::{DEFAULT_SLOTS, MAX_JOURNAL};
 use snap_call::{Call, Config, Question};
@@ -267,9 +268,9 @@ fn commit(alloc: Global, line: &Value<'_>) -> Result<Command, ReadError>
 }
 
 /// The question for a snapshot's changes.
-#[tactic(auto, unfolding(crate::specs::Commands::command_of))]
+#[tactic(auto, unfolding(crate::specs::Commands::diff_of))]
 fn diff(alloc: Global, line: &Value<'_>) -> Result<Command, ReadError>
-    ensures { Gives (λ c. c) result (command_of verbs.Diff (view line.now)) }
+    ensures { Gives (λ c. c) result (diff_of (view line.now)) }
 {
     let (namespace, key) = named(alloc, line)?;
     Ok(Command::Diff {
@@ -353,10 +354,15 @@ fn lookup_of(verb: LookupVerb, line: &Value<'_>) -> Result<Lookup, Fault>
     }
 }
 
-/// The command of a line by its verb.
+/// The command of a line by its verb, and by the fields that its operations may have.
 #[tactic(auto, unfolding(crate::specs::Commands::command_of))]
-pub(crate) fn command_of(alloc: Global, verb: Verb, line: &Value<'_>) -> Result<Command, ReadError>
-    ensures { Gives (λ c. c) result (command_of verb (view line.now)) }
+pub(crate) fn command_of(
+    alloc: Global,
+    rule: FieldRule,
+    verb: Verb,
+    line: &Value<'_>,
+) -> Result<Command, ReadError>
+    ensures { Gives (λ c. c) result (command_of rule verb (view line.now)) }
 {
     match verb {
         Verb::Open => Ok(Command::Open {
@@ -378,6 +384,7 @@ pub(crate) fn command_of(alloc: Global, verb: Verb, line: &Value<'_>) -> Result<
                 extra: usage_or(Usage::ZERO, Field::Extra, line)?,
             })
         }
+        Verb::Batch => batch(alloc, rule, line),
         Verb::Lookup(verb) => {
             let (namespace, key) = named(alloc, line)?;
             let path = path_in(alloc, Field::Path, line)?;

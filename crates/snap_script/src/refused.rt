@@ -1,10 +1,12 @@
 ghost use Rattle.std.specs.Prelude.{◌≡◌};
-ghost use Rattle.snap_script.specs.Refusals.{refusal_in_answer, refused_name};
+ghost use Rattle.snap_script.specs.Answers.{free_at_refusal, refused_from, refused_name};
+ghost use Rattle.snap_script.specs.Refusals.{refusal_in_answer};
 
 use crate::answer::Answer;
 use crate::values::{error_name, refusal_name};
 use snap_call::{Refusal, Reply};
 use snap_merge::FsError;
+use snap_usage::Usage;
 
 /// Why a command was refused.
 #[derive(Clone, Copy, Debug, PartialEq, Eq)]
@@ -34,6 +36,34 @@ impl Refused {
             Refused::StillOut => "StillOut",
         }
     }
+
+    /// What the namespace has free, where the call was over its limit.
+    pub(crate) fn free(self) -> Option<Usage>
+        ensures { result ≡ free_at_refusal self }
+    {
+        match self {
+            Refused::Book(Refusal::OverLimit {
+                free_blocks: blocks,
+                free_inodes: inodes,
+            }) => Some(Usage { blocks, inodes }),
+            Refused::Book(_)
+            | Refused::File(_)
+            | Refused::NoSession
+            | Refused::NoHand
+            | Refused::StillOut => None,
+        }
+    }
+
+    /// Where the refusal is from, as its answer has it.
+    pub(crate) fn from(self) -> &'static str
+        ensures { result.now ≡ refused_from self }
+    {
+        match self {
+            Refused::Book(_) => "book",
+            Refused::File(_) => "file",
+            Refused::NoSession | Refused::NoHand | Refused::StillOut => "world",
+        }
+    }
 }
 
 impl Answer {
@@ -48,10 +78,15 @@ impl Answer {
             Answer::NoSession => Some(Refused::NoSession),
             Answer::NoHand => Some(Refused::NoHand),
             Answer::StillOut => Some(Refused::StillOut),
+            Answer::Batch {
+                refused: Some(operation),
+                ..
+            } => Some(operation.why),
             Answer::Reply(_)
             | Answer::Session(_)
             | Answer::Share(_)
             | Answer::Changed { .. }
+            | Answer::Batch { refused: None, .. }
             | Answer::Seen(_)
             | Answer::Names(_)
             | Answer::Head { .. }

@@ -151,6 +151,7 @@ fn fields_of(verb: Verb) -> &'static [Field]
             Field::From,
             Field::To,
         ],
+        Verb::Batch => &[Field::Namespace, Field::Key, Field::Need, Field::Ops],
         Verb::Lookup(
             LookupVerb::Look | LookupVerb::List | LookupVerb::Resolve | LookupVerb::Usage,
         ) => { &[Field::Namespace, Field::Key, Field::Path, Field::Peek] }

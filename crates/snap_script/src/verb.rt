@@ -14,6 +14,7 @@ pub(crate) enum Verb {
     /// The word is that of the call in a journal.
     Call(CallKind),
     File(FileVerb),
+    Batch,
     Lookup(LookupVerb),
     Quota,
     Leases,
@@ -59,7 +60,7 @@ pub(crate) enum LookupVerb {
 }
 
 /// The commands by their words: those of the calls, as a journal has them, then the others.
-const WORDS: [(&str, Verb); 46] = [
+const WORDS: [(&str, Verb); 47] = [
     ("session", Verb::Call(CallKind::Session)),
     ("prepare", Verb::Call(CallKind::Prepare)),
     ("view", Verb::Call(CallKind::View)),
@@ -95,6 +96,7 @@ const WORDS: [(&str, Verb); 46] = [
     ("whiteout", Verb::File(FileVerb::At(PathVerb::Whiteout))),
     ("link", Verb::File(FileVerb::Link)),
     ("rename", Verb::File(FileVerb::Rename)),
+    ("batch", Verb::Batch),
     ("look", Verb::Lookup(LookupVerb::Look)),
     ("list", Verb::Lookup(LookupVerb::List)),
     ("read", Verb::Lookup(LookupVerb::Read)),

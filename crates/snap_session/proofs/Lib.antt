@@ -4,3 +4,4 @@ pub mod Entries
 pub mod Serving
 pub mod Asking
 pub mod Keeping
+pub mod Batching

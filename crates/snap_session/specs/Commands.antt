@@ -1,11 +1,12 @@
 -- What a command of a script answers, and the store after it; cited by the public clauses of `act` and, through Script.antt, of `replay`.
-use Rattle.std.specs.Prelude.{ℕ, nat_lt, Bool, true, false, List, length, map, take, drop, Option, None, Some, Result, Ok, Err, if◌then◌else◌}
+use Rattle.std.specs.Prelude.{ℕ, ◌+◌, nat_lt, Bool, true, false, List, [], ◌∷◌, length, map, take, drop, Option, None, Some, Result, Ok, Err, if◌then◌else◌}
 use Rattle.std.specs.Option.{option_map, option_map_or}
 use Rattle.snap_path.specs.Text.{Names}
 use Rattle.snap_layer.specs.declared.content.Content.{Content}
 use Rattle.snap_layer.specs.declared.content.Content.TheVariants as contents
 use Rattle.snap_layer.specs.Tree.{Tree}
 use Rattle.snap_usage.specs.declared.usage.Usage.{Usage}
+use Rattle.snap_usage.specs.Counted.{no_usage}
 use Rattle.snap_merge.specs.declared.error.FsError.TheVariants.{BadPath, NeedsCharge}
 use Rattle.snap_merge.specs.Objects.{Object, dir, file, symlink, seen}
 use Rattle.snap_merge.specs.Listing.{listing}
@@ -40,6 +41,8 @@ use Rattle.snap_world.specs.Quota.{layer_count_at}
 use Rattle.snap_world.specs.Round.{reopened}
 use Rattle.snap_script.specs.declared.answer.Shown.{Shown}
 use Rattle.snap_script.specs.declared.answer.Shown.TheVariants as shown
+use Rattle.snap_script.specs.declared.answer.RefusedOperation.{RefusedOperation}
+use Rattle.snap_script.specs.Refusals.{refusal_in_answer}
 use Rattle.snap_script.specs.declared.answer.Answer.{Answer}
 use Rattle.snap_script.specs.declared.answer.Answer.TheVariants as answers
 use Rattle.snap_script.specs.declared.command.Command.{Command}
@@ -116,6 +119,34 @@ unfoldable pub performed : ℕ → ℕ → ℕ → Option Op → Usage → World
 performed session slot id (Some op) extra w = tried session slot id (Hand slot op) extra (move w (Hand slot op))
 performed session slot id None extra w = (w, answers.Failed BadPath)
 
+-- ---- batches
+
+-- one operation of a batch: as a file command that names no extra amount
+abbrev pub operated : ℕ → ℕ → ℕ → Op → WorldValue → WorldValue × Answer
+operated session slot id op w = tried session slot id (Hand slot op) no_usage (move w (Hand slot op))
+
+-- how far a batch came, after so many of its operations
+abbrev pub batch_answer : ℕ → ℕ → Option RefusedOperation → WorldValue → Answer
+batch_answer slot done stopped w = answers.Batch done (layer_count_at slot w.hands) (share_at slot w) stopped
+
+-- after an operation: where it was refused the batch ends at it, and so many were done before
+abbrev pub unless_stopped : ℕ → ℕ → (WorldValue → WorldValue × Answer) → WorldValue × Answer → WorldValue × Answer
+unless_stopped slot done next after = option_map_or (λ why. (after.0, batch_answer slot done (Some (record { number = done + 1; why = why })) after.0))
+    (refusal_in_answer after.1) (next after.0)
+
+-- the operations, in order, up to the first that is refused; so many were done before
+abbrev pub all_operated : ℕ → ℕ → ℕ → ℕ → List Op → WorldValue → WorldValue × Answer
+all_operated session slot id done [] w = (w, batch_answer slot done None w)
+all_operated session slot id done (op ∷ ops) w = unless_stopped slot done (all_operated session slot id (done + 1) ops) (operated session slot id op w)
+
+-- after the charge: the operations, where it was granted
+abbrev pub batch_charged : ℕ → ℕ → ℕ → List Op → WorldValue × StepAnswer → WorldValue × Answer
+batch_charged session slot id ops after = if is_charged after.1 then all_operated session slot id 0 ops after.0 else telling session slot after
+
+-- a batch: a charge for what it needs, and then its operations
+abbrev pub batch : ℕ → ℕ → ℕ → Usage → List Op → WorldValue → WorldValue × Answer
+batch session slot id need ops w = batch_charged session slot id ops (move w (Locked session (calls.Charge slot id need need)))
+
 -- ---- what a snapshot shows
 
 -- what is seen, as answers have it: of a file how many bytes it has, and its digest where they aren't kept
@@ -187,6 +218,7 @@ on_store s n (commands.Trim namespace key) = on_key s.world namespace key (λ sl
 on_store s n (commands.Commit namespace key name lease labels) = on_key s.world namespace key (λ slot id. stepped n slot (Locked n (calls.Commit slot id name lease labels)) s.world)
 on_store s n (commands.Discard namespace key) = on_key s.world namespace key (λ slot id. stepped n slot (Locked n (calls.Discard slot id)) s.world)
 on_store s n (commands.File namespace key operation extra) = on_key s.world namespace key (λ slot id. performed n slot id operation extra s.world)
+on_store s n (commands.Batch namespace key need ops) = on_key s.world namespace key (λ slot id. batch n slot id need ops s.world)
 on_store s n (commands.Lookup namespace key asked path peek) = (s.world, lookup asked path (layers_at s.world namespace key peek))
 on_store s n (commands.TrySweep namespace moment) = (s.world, answers.Reply (sweep s.world.state namespace moment).1)
 on_store s n (commands.ChainUsage namespace key) = (s.world, found_or_else (λ usage. answers.Reply (replies.Usage usage)) refusal_answer (chain_usage s.world.state namespace key))

@@ -25,7 +25,7 @@ fn need_of(answer: &StepAnswer) -> Option<Usage>
     }
 }
 
-fn is_charged(answer: &StepAnswer) -> bool
+pub(crate) fn is_charged(answer: &StepAnswer) -> bool
     ensures { result ≡ is_charged answer.now }
 {
     match answer {
@@ -35,7 +35,7 @@ fn is_charged(answer: &StepAnswer) -> bool
 }
 
 // The operation; where it needs a charge, the charge, and where that is granted, the operation once more.
-fn tried<N: StoreName>(
+pub(crate) fn tried<N: StoreName>(
     world: &mut World<N>,
     n: u64,
     slot: u64,

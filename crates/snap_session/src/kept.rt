@@ -17,6 +17,7 @@ pub struct KeptServer<N: StoreName> {
     keeps: bool,
 }
 
+// By hand: a derived one is proved anew, part by part, wherever a value is let go.
 impl<N: StoreName> Drop for KeptServer<N> {
     fn drop(self) {
         let KeptServer {

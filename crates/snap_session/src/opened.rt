@@ -4,6 +4,7 @@ ghost use Rattle.snap_session.specs.Carried.{carried_of};
 ghost use Rattle.snap_session.specs.Opened.{total_of, totals_of};
 ghost use Rattle.snap_session.specs.Commands.{with_world, on_store, report};
 
+use crate::batch::batch;
 use crate::calls::{ask, chain_usage, charge, commit, discard, session, trim, try_sweep};
 use crate::carried::Carried;
 use crate::diff::diff;
@@ -121,6 +122,12 @@ fn on_store<N: StoreName>(
             operation,
             extra,
         } => file(world, n, namespace, key, operation, extra),
+        Command::Batch {
+            namespace,
+            key,
+            need,
+            ops,
+        } => batch(world, n, namespace, key, need, ops),
         Command::Lookup {
             namespace,
             key,

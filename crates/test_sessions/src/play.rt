@@ -79,6 +79,7 @@ impl<'a, N: RoundName, R: Wait> Round<'a, N, R> {
                 }
             }
             Command::Lookup { peek: true, .. }
+            | Command::Batch { .. }
             | Command::Ask(_)
             | Command::TrySweep { .. }
             | Command::ChainUsage { .. }

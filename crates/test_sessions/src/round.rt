@@ -16,6 +16,7 @@ pub(crate) struct View {
     pub(crate) viewed: Viewed,
 }
 
+// By hand: a derived one is proved anew, part by part, wherever a value is let go.
 impl Drop for View {
     fn drop(self) {
         let View {
@@ -44,6 +45,7 @@ pub(crate) struct Round<'a, N: RoundName, R: Wait> {
     pub(crate) next: Option<u64>,
 }
 
+// By hand: a derived one is proved anew, part by part, wherever a value is let go.
 impl<'a, N: RoundName, R: Wait> Drop for Round<'a, N, R> {
     fn drop(self) {
         let Round {
