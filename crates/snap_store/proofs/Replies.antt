@@ -26,7 +26,7 @@ use Rattle.snap_call.specs.Steps.{lease_add, lease_create, lease_drop, lease_rel
 use Rattle.snap_call.proofs.Parts.{lease_add_record, lease_drop_at, remove_record}
 use Rattle.snap_accounts.specs.Entries.{IsPlain}
 use Rattle.snap_book.specs.Book.{AnsweredBy, BookValue}
-use Rattle.snap_store.specs.Replies.{AreMounts, IsDone, IsInfo, IsPage, IsRemoval, IsReplyTo, IsSweep, IsUsage}
+use Rattle.snap_store.specs.Replies.{IsReplyTo}
 
 -- ---- a choice of two steps
 
@@ -123,22 +123,26 @@ of_lease_release P s namespace lease why other =
 of_sweep : (P : Reply → Type 0) (s : State) (namespace : Bytes) (moment : ℕ) → ((why : Refusal) → P (replies.Refused why)) → ((removed : List Bytes) (leases : ℕ) (freed : Usage) → P (replies.Swept removed leases freed)) → P (sweep s namespace moment).1
 of_sweep P s namespace moment why other = in_place P s (place_of namespace s.namespaces) _ _ (λ place. other _ _ _) (why _)
 
+view_reply : (namespace key parent : Bytes) (labels : List Label) (reply : Reply) → IsReplyTo (calls.View namespace key parent labels) reply
+view_reply namespace key parent labels (replies.Refused why) = tt
+view_reply namespace key parent labels reply = tt
+
 -- ---- all of them
 
 reply_of : (s : State) (call : Call) → IsPlain call → IsReplyTo call (step s call Nothing).1
-reply_of s (calls.Stat namespace key) plain = of_ask IsInfo s (λ r. replies.Info (info_of r)) namespace key (λ why. tt) (λ r. tt)
-reply_of s (calls.Usage namespace key) plain = of_ask IsUsage s (λ r. replies.Usage (usage_of r.content)) namespace key (λ why. tt) (λ r. tt)
-reply_of s (calls.Mounts namespace key) plain = of_ask AreMounts s (mounts s) namespace key (λ why. tt) (λ r. of_mounts AreMounts s r (λ why. tt) (λ mounts. tt))
-reply_of s (calls.Remove namespace key) plain = of_remove IsRemoval s namespace key (λ why. tt) (λ usage. tt)
-reply_of s (calls.Update namespace key labels paths) plain = of_update IsInfo s namespace key labels paths (λ why. tt) (λ info. tt)
-reply_of s (calls.Walk namespace after most asked) plain = of_walk IsPage s namespace after most asked (λ why. tt) (λ infos. tt)
-reply_of s (calls.SetLimit namespace limit) plain = of_limit IsDone s namespace limit (λ why. tt) tt
-reply_of s (calls.LeaseCreate namespace lease until) plain = of_lease IsDone s namespace lease until (λ why. tt) tt
-reply_of s (calls.LeaseAdd namespace lease name) plain = of_lease_add IsDone s namespace lease name (λ why. tt) tt
-reply_of s (calls.LeaseDrop namespace lease name) plain = of_lease_drop IsDone s namespace lease name (λ why. tt) tt
-reply_of s (calls.LeaseRelease namespace lease) plain = of_lease_release IsDone s namespace lease (λ why. tt) tt
-reply_of s (calls.Sweep namespace moment) plain = of_sweep IsSweep s namespace moment (λ why. tt) (λ removed leases freed. tt)
-reply_of s (calls.View namespace key parent labels) plain = tt
+reply_of s (calls.Stat namespace key) plain = of_ask (IsReplyTo (calls.Stat namespace key)) s (λ r. replies.Info (info_of r)) namespace key (λ why. tt) (λ r. tt)
+reply_of s (calls.Usage namespace key) plain = of_ask (IsReplyTo (calls.Usage namespace key)) s (λ r. replies.Usage (usage_of r.content)) namespace key (λ why. tt) (λ r. tt)
+reply_of s (calls.Mounts namespace key) plain = of_ask (IsReplyTo (calls.Mounts namespace key)) s (mounts s) namespace key (λ why. tt) (λ r. of_mounts (IsReplyTo (calls.Mounts namespace key)) s r (λ why. tt) (λ mounts. tt))
+reply_of s (calls.Remove namespace key) plain = of_remove (IsReplyTo (calls.Remove namespace key)) s namespace key (λ why. tt) (λ usage. tt)
+reply_of s (calls.Update namespace key labels paths) plain = of_update (IsReplyTo (calls.Update namespace key labels paths)) s namespace key labels paths (λ why. tt) (λ info. tt)
+reply_of s (calls.Walk namespace after most asked) plain = of_walk (IsReplyTo (calls.Walk namespace after most asked)) s namespace after most asked (λ why. tt) (λ infos. tt)
+reply_of s (calls.SetLimit namespace limit) plain = of_limit (IsReplyTo (calls.SetLimit namespace limit)) s namespace limit (λ why. tt) tt
+reply_of s (calls.LeaseCreate namespace lease until) plain = of_lease (IsReplyTo (calls.LeaseCreate namespace lease until)) s namespace lease until (λ why. tt) tt
+reply_of s (calls.LeaseAdd namespace lease name) plain = of_lease_add (IsReplyTo (calls.LeaseAdd namespace lease name)) s namespace lease name (λ why. tt) tt
+reply_of s (calls.LeaseDrop namespace lease name) plain = of_lease_drop (IsReplyTo (calls.LeaseDrop namespace lease name)) s namespace lease name (λ why. tt) tt
+reply_of s (calls.LeaseRelease namespace lease) plain = of_lease_release (IsReplyTo (calls.LeaseRelease namespace lease)) s namespace lease (λ why. tt) tt
+reply_of s (calls.Sweep namespace moment) plain = of_sweep (IsReplyTo (calls.Sweep namespace moment)) s namespace moment (λ why. tt) (λ removed leases freed. tt)
+reply_of s (calls.View namespace key parent labels) plain = view_reply namespace key parent labels (step s (calls.View namespace key parent labels) Nothing).1
 reply_of s call plain = absurd plain
 
 refused_reply : (call : Call) (why : Refusal) → IsReplyTo call (replies.Refused why)

@@ -4,7 +4,7 @@ ghost use Rattle.snap_call.specs.declared.call.Call.TheVariants as calls;
 ghost use Rattle.snap_call.specs.declared.call.Given.TheVariants.{Nothing};
 ghost use Rattle.snap_call.specs.declared.reply.Reply.TheVariants as replies;
 ghost use Rattle.snap_accounts.specs.Entries.{IsPlain};
-ghost use Rattle.snap_store.specs.Replies.{AreMounts, IsDone, IsInfo, IsPage, IsRemoval, IsReplyTo, IsSweep, IsUsage};
+ghost use Rattle.snap_store.specs.Replies.{IsReplyTo};
 ghost use Rattle.snap_tape.specs.Tapes.{AnsweredOn, RefusedOn, Taped};
 
 use crate::note::{is_noted, note_entry};
@@ -27,96 +27,15 @@ pub struct Swept {
     pub freed: Usage,
 }
 
-fn removal_of(reply: Reply) -> Result<Usage, Refusal>
-    requires { IsRemoval reply }
-    ensures ok { IfOk result (λ usage. reply ≡ replies.Removed usage) }
-    ensures err { IfErr result (λ why. reply ≡ replies.Refused why) }
-{
-    match reply {
-        Reply::Removed(usage) => Ok(usage),
-        Reply::Refused(why) => Err(why),
-        _ => unreachable!(),
-    }
-}
-
-fn info_of(reply: Reply) -> Result<Info, Refusal>
-    requires { IsInfo reply }
-    ensures ok { IfOk result (λ info. reply ≡ replies.Info info) }
-    ensures err { IfErr result (λ why. reply ≡ replies.Refused why) }
-{
-    match reply {
-        Reply::Info(info) => Ok(info),
-        Reply::Refused(why) => Err(why),
-        _ => unreachable!(),
-    }
-}
-
-fn usage_of(reply: Reply) -> Result<Usage, Refusal>
-    requires { IsUsage reply }
-    ensures ok { IfOk result (λ usage. reply ≡ replies.Usage usage) }
-    ensures err { IfErr result (λ why. reply ≡ replies.Refused why) }
-{
-    match reply {
-        Reply::Usage(usage) => Ok(usage),
-        Reply::Refused(why) => Err(why),
-        _ => unreachable!(),
-    }
-}
-
-fn mounts_of(reply: Reply) -> Result<Sequence<Mount>, Refusal>
-    requires { AreMounts reply }
-    ensures ok { IfOk result (λ mounts. reply ≡ replies.Mounts mounts) }
-    ensures err { IfErr result (λ why. reply ≡ replies.Refused why) }
-{
-    match reply {
-        Reply::Mounts(mounts) => Ok(mounts),
-        Reply::Refused(why) => Err(why),
-        _ => unreachable!(),
-    }
-}
-
-fn page_of(reply: Reply) -> Result<Sequence<Info>, Refusal>
-    requires { IsPage reply }
-    ensures ok { IfOk result (λ infos. reply ≡ replies.Page infos) }
-    ensures err { IfErr result (λ why. reply ≡ replies.Refused why) }
-{
-    match reply {
-        Reply::Page(infos) => Ok(infos),
-        Reply::Refused(why) => Err(why),
-        _ => unreachable!(),
-    }
-}
-
-fn done_of(reply: Reply) -> Result<(), Refusal>
-    requires { IsDone reply }
-    ensures ok { OnOk result (reply ≡ replies.Done) }
-    ensures err { IfErr result (λ why. reply ≡ replies.Refused why) }
-{
-    match reply {
-        Reply::Done => Ok(()),
-        Reply::Refused(why) => Err(why),
-        _ => unreachable!(),
-    }
-}
-
-fn sweep_of(reply: Reply) -> Result<Swept, Refusal>
-    requires { IsSweep reply }
-    ensures ok { IfOk result (λ swept. reply ≡ replies.Swept swept.removed swept.leases swept.freed) }
-    ensures err { IfErr result (λ why. reply ≡ replies.Refused why) }
-{
-    match reply {
-        Reply::Swept {
-            removed,
-            leases,
-            freed,
-        } => Ok(Swept {
-            removed,
-            leases,
-            freed,
-        }),
-        Reply::Refused(why) => Err(why),
-        _ => unreachable!(),
-    }
+// The answer of a call that has no other reply beside a refusal.
+macro_rules! answer {
+    ($reply:expr, $own:pat => $answer:expr) => {
+        match $reply {
+            $own => Ok($answer),
+            Reply::Refused(why) => Err(why),
+            _ => unreachable!(),
+        }
+    };
 }
 
 fn copies(alloc: Global, a: &str, b: &str) -> Result<(Text, Text), AllocError>
@@ -226,7 +145,7 @@ impl<N: RoundName> Store<N> {
     {
         let (namespace, key) = copies(self.alloc, namespace, key)?;
         let call = Call::Remove { namespace, key };
-        removal_of(self.ask(rt, session, call))
+        answer!(self.ask(rt, session, call), Reply::Removed(freed) => freed)
     }
 
     /// The info of a snapshot (containerd's `Snapshotter.Stat`).
@@ -245,7 +164,7 @@ impl<N: RoundName> Store<N> {
     {
         let (namespace, key) = copies(self.alloc, namespace, key)?;
         let call = Call::Stat { namespace, key };
-        info_of(self.ask(rt, session, call))
+        answer!(self.ask(rt, session, call), Reply::Info(info) => info)
     }
 
     /// Changes a snapshot's labels by field paths, or all of them where no path is given (containerd's
@@ -268,7 +187,7 @@ impl<N: RoundName> Store<N> {
         ensures room { session.old.spare ≤ session.new.spare + 1 }
     {
         let call = update_call(self.alloc, namespace, key, labels, paths)?;
-        info_of(self.ask(rt, session, call))
+        answer!(self.ask(rt, session, call), Reply::Info(info) => info)
     }
 
     /// What a snapshot is charged, in blocks of 4096 bytes and inodes: the count over the layer of a committed
@@ -288,7 +207,7 @@ impl<N: RoundName> Store<N> {
     {
         let (namespace, key) = copies(self.alloc, namespace, key)?;
         let call = Call::Usage { namespace, key };
-        usage_of(self.ask(rt, session, call))
+        answer!(self.ask(rt, session, call), Reply::Usage(usage) => usage)
     }
 
     /// The mounts that show an active snapshot or a view (containerd's `Snapshotter.Mounts`).
@@ -308,7 +227,7 @@ impl<N: RoundName> Store<N> {
     {
         let (namespace, key) = copies(self.alloc, namespace, key)?;
         let call = Call::Mounts { namespace, key };
-        mounts_of(self.ask(rt, session, call))
+        answer!(self.ask(rt, session, call), Reply::Mounts(mounts) => mounts)
     }
 
     /// The infos of the snapshots of a namespace whose keys come after a text and that have every part of a
@@ -330,7 +249,7 @@ impl<N: RoundName> Store<N> {
         ensures room { session.old.spare ≤ session.new.spare + 1 }
     {
         let call = walk_call(self.alloc, namespace, after, most, asked)?;
-        page_of(self.ask(rt, session, call))
+        answer!(self.ask(rt, session, call), Reply::Page(infos) => infos)
     }
 
     /// Makes a lease that names nothing yet, with a last moment or none (containerd's `leases.Manager.Create`).
@@ -354,7 +273,7 @@ impl<N: RoundName> Store<N> {
             lease,
             until,
         };
-        done_of(self.ask(rt, session, call))
+        answer!(self.ask(rt, session, call), Reply::Done => ())
     }
 
     /// Names a committed snapshot in a lease, live or ended; a name that is there already changes nothing
@@ -375,7 +294,7 @@ impl<N: RoundName> Store<N> {
         ensures room { session.old.spare ≤ session.new.spare + 1 }
     {
         let call = lease_add_call(self.alloc, namespace, lease, name)?;
-        done_of(self.ask(rt, session, call))
+        answer!(self.ask(rt, session, call), Reply::Done => ())
     }
 
     /// Takes one name out of a lease, live or ended, and no snapshot (containerd's
@@ -402,7 +321,7 @@ impl<N: RoundName> Store<N> {
             lease,
             name,
         };
-        done_of(self.ask(rt, session, call))
+        answer!(self.ask(rt, session, call), Reply::Done => ())
     }
 
     /// Takes a lease away with its names, and no snapshot (containerd's `leases.Manager.Delete`).
@@ -421,7 +340,7 @@ impl<N: RoundName> Store<N> {
     {
         let (namespace, lease) = copies(self.alloc, namespace, lease)?;
         let call = Call::LeaseRelease { namespace, lease };
-        done_of(self.ask(rt, session, call))
+        answer!(self.ask(rt, session, call), Reply::Done => ())
     }
 
     /// Gives a namespace another limit, in blocks of 4096 bytes and inodes.
@@ -443,7 +362,7 @@ impl<N: RoundName> Store<N> {
             namespace: Text::copy_of(self.alloc, namespace)?,
             limit,
         };
-        done_of(self.ask(rt, session, call))
+        answer!(self.ask(rt, session, call), Reply::Done => ())
     }
 
     /// Takes away the leases of a namespace that have ended at a moment, and those of its committed snapshots
@@ -465,6 +384,17 @@ impl<N: RoundName> Store<N> {
             namespace: Text::copy_of(self.alloc, namespace)?,
             moment,
         };
-        sweep_of(self.ask(rt, session, call))
+        answer!(
+            self.ask(rt, session, call),
+            Reply::Swept {
+                removed,
+                leases,
+                freed,
+            } => Swept {
+                removed,
+                leases,
+                freed,
+            }
+        )
     }
 }
