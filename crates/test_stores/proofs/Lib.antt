@@ -2,3 +2,4 @@ mod Slots
 mod FirstLayer
 mod FirstTape
 mod FirstRound
+mod Witnesses
