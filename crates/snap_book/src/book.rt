@@ -38,6 +38,7 @@ pub struct Book<N: StoreName> {
     pub(crate) journal: Journal,
 }
 
+// By hand: a derived one is proved anew, part by part, wherever a value is let go.
 impl<N: StoreName> Drop for Book<N> {
     fn drop(self) {
         let Book {

@@ -129,6 +129,7 @@ pub enum Given {
     Layer(Shared),
 }
 
+// By hand: a derived one is proved anew, part by part, wherever a value is let go.
 impl Drop for Call {
     fn drop(self) {
         match self {
@@ -219,6 +220,7 @@ impl Drop for Call {
     }
 }
 
+// By hand: a derived one is proved anew, part by part, wherever a value is let go.
 impl Drop for Given {
     fn drop(self) {
         match self {

@@ -13,6 +13,7 @@ pub struct Entry {
     pub reply: Reply,
 }
 
+// By hand: a derived one is proved anew, part by part, wherever a value is let go.
 impl Drop for Entry {
     fn drop(self) {
         let Entry {

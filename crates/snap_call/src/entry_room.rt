@@ -21,6 +21,7 @@ impl Model for EntryRoom {
     ghost view = { λ _. tt };
 }
 
+// By hand: a derived one is proved anew, part by part, wherever a value is let go.
 impl Drop for EntryRoom {
     fn drop(self) {
         let EntryRoom { entry: _, copy: _ } = self;

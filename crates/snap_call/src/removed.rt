@@ -18,6 +18,7 @@ impl Model for Removed {
     ghost view = { λ _. tt };
 }
 
+// By hand: a derived one is proved anew, part by part, wherever a value is let go.
 impl Drop for Removed {
     fn drop(self) {
         let Removed { records: _ } = self;

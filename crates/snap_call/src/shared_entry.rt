@@ -22,6 +22,7 @@ pub struct SharedEntry {
     holder: Holder,
 }
 
+// By hand: a derived one is proved anew, part by part, wherever a value is let go.
 impl Drop for SharedEntry {
     fn drop(self) {
         let SharedEntry { holder: _ } = self;

@@ -19,6 +19,7 @@ pub struct Writer {
     out: json::Writer,
 }
 
+// By hand: a derived one is proved anew, part by part, wherever a value is let go.
 impl Drop for Writer {
     fn drop(self) {
         let Writer { out: _ } = self;

@@ -23,6 +23,7 @@ pub enum Inode {
     },
 }
 
+// By hand: a derived one is proved anew, part by part, wherever a value is let go.
 impl Drop for Inode {
     fn drop(self) {
         match self {

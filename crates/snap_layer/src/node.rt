@@ -14,6 +14,7 @@ pub struct Bytes {
     items: Vec<u8>,
 }
 
+// By hand: a derived one is proved anew, part by part, wherever a value is let go.
 impl Drop for Bytes {
     fn drop(self) {
         let Bytes { items: _ } = self;

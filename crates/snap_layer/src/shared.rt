@@ -13,6 +13,7 @@ pub struct Shared {
     layer: Arc<Layer>,
 }
 
+// By hand: a derived one is proved anew, part by part, wherever a value is let go.
 impl Drop for Shared {
     fn drop(self) {
         let Shared { layer: _ } = self;

@@ -23,6 +23,7 @@ pub(crate) struct LeaseEntry {
     names: IndexMap<String, ()>,
 }
 
+// By hand: a derived one is proved anew, part by part, wherever a value is let go.
 impl Drop for LeaseEntry {
     fn drop(self) {
         let LeaseEntry {

@@ -40,6 +40,7 @@ pub struct Mount {
     pub options: Sequence<Text>,
 }
 
+// By hand: a derived one is proved anew, part by part, wherever a value is let go.
 impl Drop for Mount {
     fn drop(self) {
         let Mount {

@@ -42,11 +42,10 @@ impl From<NoMemory> for AllocError {
 impl NoMemory {
     /// For a count that has come to the last addresses: no memory has room for one more of what it counts. It is
     /// no allocator's refusal, and stands where a count can't be bounded otherwise.
-    pub fn of_last_address(count: usize) -> NoMemory
-        requires { 2 ^ 64 ≤ count + 2 }
+    pub fn of_last_address(_count: usize) -> NoMemory
+        requires { 2 ^ 64 ≤ _count + 2 }
         ensures { result ≡ no_memory }
     {
-        let _ = count;
         NoMemory {
             refused: AllocError,
         }

@@ -53,6 +53,7 @@ pub struct Name {
     text: String,
 }
 
+// By hand: a derived one is proved anew, part by part, wherever a value is let go.
 impl Drop for Name {
     fn drop(self) {
         let Name { text: _ } = self;

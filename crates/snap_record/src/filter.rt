@@ -20,6 +20,7 @@ pub struct LabelFilter {
     pub value: Option<Text>,
 }
 
+// By hand: a derived one is proved anew, part by part, wherever a value is let go.
 impl Drop for LabelFilter {
     fn drop(self) {
         let LabelFilter { key: _, value: _ } = self;
@@ -51,6 +52,7 @@ pub struct Filter {
     pub labels: Sequence<LabelFilter>,
 }
 
+// By hand: a derived one is proved anew, part by part, wherever a value is let go.
 impl Drop for Filter {
     fn drop(self) {
         let Filter {

@@ -27,6 +27,7 @@ pub struct Info {
     pub id: u32,
 }
 
+// By hand: a derived one is proved anew, part by part, wherever a value is let go.
 impl Drop for Info {
     fn drop(self) {
         let Info {

@@ -22,6 +22,7 @@ pub struct Labels {
     list: Vec<(Text, Text)>,
 }
 
+// By hand: a derived one is proved anew, part by part, wherever a value is let go.
 impl Drop for Labels {
     fn drop(self) {
         let Labels { list: _ } = self;

@@ -11,6 +11,7 @@ pub struct Sequence<T> {
     items: Vec<T>,
 }
 
+// By hand: a derived one is proved anew, part by part, wherever a value is let go.
 impl<T: Drop> Drop for Sequence<T> {
     fn drop(self) {
         let Sequence { items: _ } = self;

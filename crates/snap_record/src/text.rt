@@ -16,6 +16,7 @@ pub struct Text {
     text: String,
 }
 
+// By hand: a derived one is proved anew, part by part, wherever a value is let go.
 impl Drop for Text {
     fn drop(self) {
         let Text { text: _ } = self;

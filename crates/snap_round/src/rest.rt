@@ -30,6 +30,7 @@ impl Resting {
     }
 }
 
+// By hand, through `into_seat`: a derived one would forget what `also_owns` covers.
 impl Drop for Resting {
     fn drop(self) {
         let _seat = self.into_seat();

@@ -13,6 +13,7 @@ pub(super) struct BoxedRecord {
     boxed: Box<Record>,
 }
 
+// By hand: a derived one is proved anew, part by part, wherever a value is let go.
 impl Drop for BoxedRecord {
     fn drop(self) {
         let BoxedRecord { boxed: _ } = self;
