@@ -38,7 +38,7 @@ func (s *Snapshotter) change(ctx context.Context, keys ...string) (context.Conte
 
 // Stat tells a snapshot of any kind.
 func (s *Snapshotter) Stat(ctx context.Context, key string) (snapshots.Info, error) {
-	info, err := s.store.Stat(ctx, Namespace, key)
+	info, err := s.store.Stat(ctx, s.namespaceOf(key), key)
 	if err != nil {
 		return snapshots.Info{}, subject{key: key}.classified(err)
 	}
@@ -53,7 +53,7 @@ func (s *Snapshotter) Update(ctx context.Context, info snapshots.Info, fieldpath
 	}
 	defer end()
 	labels := withoutEmpty(info.Labels)
-	updated, err := s.store.Update(ctx, Namespace, info.Name, labels, fieldpaths)
+	updated, err := s.store.Update(ctx, s.namespaceOf(info.Name), info.Name, labels, fieldpaths)
 	if err != nil {
 		return snapshots.Info{}, subject{key: info.Name, labels: labels}.classified(err)
 	}
@@ -62,7 +62,7 @@ func (s *Snapshotter) Update(ctx context.Context, info snapshots.Info, fieldpath
 
 // Usage tells what the store charges for a snapshot alone.
 func (s *Snapshotter) Usage(ctx context.Context, key string) (snapshots.Usage, error) {
-	usage, err := s.store.Usage(ctx, Namespace, key)
+	usage, err := s.store.Usage(ctx, s.namespaceOf(key), key)
 	if err != nil {
 		return snapshots.Usage{}, subject{key: key}.classified(err)
 	}
@@ -76,7 +76,7 @@ func (s *Snapshotter) Mounts(ctx context.Context, key string) ([]mount.Mount, er
 		return nil, err
 	}
 	defer end()
-	mounts, err := s.store.Mounts(ctx, Namespace, key)
+	mounts, err := s.store.Mounts(ctx, s.namespaceOf(key), key)
 	if err == nil {
 		err = s.complete(ctx, key)
 	}
@@ -88,7 +88,7 @@ func (s *Snapshotter) Mounts(ctx context.Context, key string) ([]mount.Mount, er
 
 // Makes the directory of an active snapshot or a view, where a full disk didn't take it before.
 func (s *Snapshotter) complete(ctx context.Context, key string) error {
-	info, err := s.store.Stat(ctx, Namespace, key)
+	info, err := s.store.Stat(ctx, s.namespaceOf(key), key)
 	if err != nil {
 		return err
 	}
@@ -97,7 +97,7 @@ func (s *Snapshotter) complete(ctx context.Context, key string) error {
 	}
 	parent := uint64(0)
 	if info.Parent != "" {
-		it, err := s.store.Stat(ctx, Namespace, info.Parent)
+		it, err := s.store.Stat(ctx, s.namespaceOf(info.Parent), info.Parent)
 		if err != nil {
 			return err
 		}
@@ -121,12 +121,21 @@ func (s *Snapshotter) create(ctx context.Context, kind pibroulez.Kind, key, pare
 	if err != nil {
 		return nil, err
 	}
+	reserve, err := reserveOf(labels)
+	if err != nil {
+		return nil, err
+	}
 	ctx, end, err := s.change(ctx, key)
 	if err != nil {
 		return nil, err
 	}
 	defer end()
 	id, chain, err := s.place(ctx, kind, key, parent, labels)
+	if err == nil && kind == pibroulez.KindActive && reserve != (pibroulez.Usage{}) {
+		if err = s.chargeFor(ctx, key, reserve); err != nil {
+			s.dropOwn(ctx, key, id)
+		}
+	}
 	if err != nil {
 		return nil, subject{key: key, parent: &parent, labels: labels}.classified(err)
 	}
@@ -141,15 +150,15 @@ func (s *Snapshotter) create(ctx context.Context, kind pibroulez.Kind, key, pare
 // Makes an active snapshot or a view. Its id, and those of its ancestors.
 func (s *Snapshotter) place(ctx context.Context, kind pibroulez.Kind, key, parent string, labels map[string]string) (uint64, []uint64, error) {
 	if kind == pibroulez.KindView {
-		made, err := s.store.View(ctx, Namespace, key, parent, pibroulez.WithLabels(labels))
+		made, err := s.store.View(ctx, s.namespaceOf(key), key, parent, pibroulez.WithLabels(labels))
 		return made.ID, made.Chain, err
 	}
 	var made pibroulez.Prepared
-	err := s.charge(ctx, func(ctx context.Context) (err error) {
-		made, err = s.store.Prepare(ctx, Namespace, key, parent, pibroulez.WithLabels(labels))
+	err := s.charge(ctx, s.namespaceOf(key), pibroulez.Usage{Blocks: 1, Inodes: 1}, func(ctx context.Context) (err error) {
+		made, err = s.store.Prepare(ctx, s.namespaceOf(key), key, parent, pibroulez.WithLabels(labels))
 		return err
 	})
-	return made.ID, made.Chain, err
+	return made.ID, made.Chain, s.wanting(err, key, pibroulez.Usage{Blocks: 1, Inodes: 1})
 }
 
 // Gives a new snapshot its directory and its time.
@@ -161,17 +170,18 @@ func (s *Snapshotter) made(ctx context.Context, r record, chain []uint64, kind p
 	if err := s.directories.make(r, parent, kind); err != nil {
 		return nil, err
 	}
-	info, err := s.store.Stat(ctx, Namespace, r.Key)
+	info, err := s.store.Stat(ctx, s.namespaceOf(r.Key), r.Key)
 	if err != nil {
 		return nil, err
 	}
 	s.times.of(info)
-	mounts, err := s.store.Mounts(ctx, Namespace, r.Key)
+	mounts, err := s.store.Mounts(ctx, s.namespaceOf(r.Key), r.Key)
 	return mountsWith(s.options, mounts), err
 }
 
-// Commit commits an active snapshot, with the labels that are given. Its directory has both its key and its name before
-// the store has the name. Where it isn't committed, it is as before.
+// Commit commits an active snapshot, with the labels that are given, and charges what its directory has. Its directory has
+// both its key and its name before the store has the name. Where it isn't committed, it is as before but for what is charged:
+// over the tenant's limit nothing is charged either.
 func (s *Snapshotter) Commit(ctx context.Context, name, key string, opts ...snapshots.Opt) error {
 	labels, err := labelsOf(opts)
 	if err != nil {
@@ -183,22 +193,48 @@ func (s *Snapshotter) Commit(ctx context.Context, name, key string, opts ...snap
 	}
 	defer end()
 	about := subject{key: key, name: &name, labels: labels}
-	info, err := s.store.Stat(ctx, Namespace, key)
+	info, err := s.committable(ctx, about)
 	if err != nil {
 		return about.classified(err)
 	}
-	if info.Kind != pibroulez.KindActive {
-		return fmt.Errorf("snapshot %q is not active: %w", key, errdefs.ErrFailedPrecondition)
+	if err := s.record(ctx, info); err != nil {
+		return about.classified(err)
 	}
 	if err := s.directories.nameIn(info.ID, key, name); err != nil {
 		return err
 	}
-	if _, err := s.store.Commit(ctx, Namespace, key, name, pibroulez.WithLabels(labels)); err != nil {
+	if _, err := s.store.Commit(ctx, s.namespaceOf(key), key, name, pibroulez.WithLabels(labels)); err != nil {
 		s.unname(ctx, info.ID, key, err)
 		return about.classified(err)
 	}
 	_, err = s.Stat(ctx, name)
 	return err
+}
+
+// The snapshot of a commit that the store would take. It would seal the snapshot where it refuses it.
+func (s *Snapshotter) committable(ctx context.Context, about subject) (pibroulez.Info, error) {
+	namespace, name := s.namespaceOf(about.key), *about.name
+	info, err := s.store.Stat(ctx, namespace, about.key)
+	if err != nil {
+		return info, err
+	}
+	if info.Kind != pibroulez.KindActive {
+		return info, fmt.Errorf("snapshot %q is not active: %w", about.key, errdefs.ErrFailedPrecondition)
+	}
+	if other := s.namespaceOf(name); other != namespace {
+		return info, fmt.Errorf("snapshot %q of tenant %q is not committed as %q of another one: %w", about.key, namespace, name, errdefs.ErrInvalidArgument)
+	}
+	if !isKey(name) || about.hasMalformedLabels() {
+		return info, &pibroulez.Refusal{Reason: pibroulez.ErrBadArgument, From: "book"}
+	}
+	_, err = s.store.Stat(ctx, namespace, name)
+	switch {
+	case err == nil:
+		return info, &pibroulez.Refusal{Reason: pibroulez.ErrAlreadyExists, From: "book"}
+	case errors.Is(err, pibroulez.ErrNotFound):
+		return info, nil
+	}
+	return info, err
 }
 
 // Has a directory say, after a commit that was not made, that its snapshot isn't to be committed. Where nobody knows
@@ -219,7 +255,7 @@ func (s *Snapshotter) Remove(ctx context.Context, key string) error {
 	if err == nil {
 		defer end()
 		var info pibroulez.Info
-		if info, err = s.store.Stat(ctx, Namespace, key); err == nil {
+		if info, err = s.store.Stat(ctx, s.namespaceOf(key), key); err == nil {
 			err = s.drop(ctx, info)
 		}
 	}
@@ -231,7 +267,7 @@ func (s *Snapshotter) Remove(ctx context.Context, key string) error {
 
 // Drops the snapshot that a call has made and failed to complete.
 func (s *Snapshotter) dropOwn(ctx context.Context, key string, id uint64) {
-	info, err := s.store.Stat(ctx, Namespace, key)
+	info, err := s.store.Stat(ctx, s.namespaceOf(key), key)
 	if err == nil && info.ID == id {
 		err = s.drop(ctx, info)
 	}
@@ -248,9 +284,9 @@ func (s *Snapshotter) drop(ctx context.Context, info pibroulez.Info) error {
 	}
 	var err error
 	if info.Kind == pibroulez.KindActive {
-		_, err = s.store.Discard(ctx, Namespace, info.Name)
+		_, err = s.store.Discard(ctx, s.namespaceOf(info.Name), info.Name)
 	} else {
-		_, err = s.store.Remove(ctx, Namespace, info.Name)
+		_, err = s.store.Remove(ctx, s.namespaceOf(info.Name), info.Name)
 	}
 	if err != nil && !mayBeMade(err) {
 		if err := unmarkRemoving(directory); err != nil {
@@ -276,25 +312,22 @@ func (s *Snapshotter) Walk(ctx context.Context, fn snapshots.WalkFunc, texts ...
 	if err != nil {
 		return err
 	}
-	after := ""
+	cursors := s.cursors()
 	for {
-		page, err := s.store.Walk(ctx, Namespace, after, pageSize, pibroulez.Filter{})
+		it, err := s.least(ctx, cursors)
 		if err != nil {
 			return subject{}.classified(err)
 		}
-		for _, it := range page {
-			info := s.infoOf(it)
-			if !filter.Match(fieldsOf(info)) {
-				continue
-			}
-			if err := fn(ctx, info); err != nil {
-				return err
-			}
-		}
-		if len(page) < pageSize {
+		if it == nil {
 			return nil
 		}
-		after = page[len(page)-1].Name
+		info := s.infoOf(*it)
+		if !filter.Match(fieldsOf(info)) {
+			continue
+		}
+		if err := fn(ctx, info); err != nil {
+			return err
+		}
 	}
 }
 

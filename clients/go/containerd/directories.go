@@ -37,6 +37,9 @@ func newDirectories(path string) *directories {
 
 func (d *directories) of(id uint64) string { return filepath.Join(d.path, strconv.FormatUint(id, 10)) }
 
+// The directory of the upper layer of a snapshot.
+func (d *directories) upperOf(id uint64) string { return filepath.Join(d.of(id), "fs") }
+
 // The id that a name is, where it is one.
 func idOf(name string) (uint64, bool) {
 	id, err := strconv.ParseUint(name, 10, 64)

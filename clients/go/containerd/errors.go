@@ -21,6 +21,12 @@ var classes = []struct{ err, class error }{
 	{pibroulez.ErrHasChildren, errdefs.ErrFailedPrecondition},
 	{pibroulez.ErrInUse, errdefs.ErrFailedPrecondition},
 	{pibroulez.ErrTooDeep, errdefs.ErrFailedPrecondition},
+	{pibroulez.ErrNoHand, errdefs.ErrFailedPrecondition},
+	{ErrNotOverlay, errdefs.ErrFailedPrecondition},
+	{ErrTooLongPath, errdefs.ErrFailedPrecondition},
+	{ErrLedger, errdefs.ErrFailedPrecondition},
+	{pibroulez.ErrLayerFull, errdefs.ErrFailedPrecondition},
+	{pibroulez.ErrTooBig, errdefs.ErrFailedPrecondition},
 	{pibroulez.ErrTooManyActives, errdefs.ErrUnavailable},
 	{pibroulez.ErrOverLimit, errdefs.ErrUnavailable},
 	{pibroulez.ErrJournalFull, errdefs.ErrUnavailable},
@@ -63,7 +69,10 @@ func (s subject) classified(err error) error {
 
 // What the store refuses, or the error's own words.
 func (s subject) words(err error) string {
-	refusal := new(pibroulez.Refusal)
+	refusal, lacks := new(pibroulez.Refusal), new(wants)
+	if errors.As(err, &lacks) {
+		return lacks.Error()
+	}
 	if !errors.As(err, &refusal) {
 		return err.Error()
 	}
@@ -84,8 +93,6 @@ func (s subject) words(err error) string {
 		return fmt.Sprintf("parent %q is not committed", text(s.parent))
 	case pibroulez.ErrTooDeep:
 		return fmt.Sprintf("parent %q has as many ancestors as a snapshot may have", text(s.parent))
-	case pibroulez.ErrOverLimit:
-		return fmt.Sprintf("over limit: free %d blocks, %d inodes", refusal.Free.Blocks, refusal.Free.Inodes)
 	}
 	if words := plainWords[refusal.Reason]; words != "" && s.key != "" {
 		return fmt.Sprintf("snapshot %q %s", s.key, words)
@@ -96,6 +103,7 @@ func (s subject) words(err error) string {
 // What refusals say of the snapshot that the call has the key of.
 var plainWords = map[pibroulez.Reason]string{
 	pibroulez.ErrNotActive:      "is not active",
+	pibroulez.ErrNoHand:         "is sealed by a refused commit: it can only be removed",
 	pibroulez.ErrHasChildren:    "has children",
 	pibroulez.ErrInUse:          "is active",
 	pibroulez.ErrLeased:         "is named by a lease",
@@ -120,11 +128,22 @@ func (s subject) malformed(field string) string {
 		return fmt.Sprintf("%d labels of snapshot %q, of at most %d", len(s.labels), s.key, mostLabels)
 	}
 	for name, value := range s.labels {
-		if name == "" || len(name)+len(value) > mostLabelBytes {
+		if isMalformed(name, value) {
 			return fmt.Sprintf("malformed label %q of snapshot %q", name, s.key)
 		}
 	}
 	return fmt.Sprintf("malformed labels or paths of snapshot %q", s.key)
+}
+
+func isMalformed(name, value string) bool { return name == "" || len(name)+len(value) > mostLabelBytes }
+
+func (s subject) hasMalformedLabels() bool {
+	for name, value := range s.labels {
+		if isMalformed(name, value) {
+			return true
+		}
+	}
+	return len(s.labels) > mostLabels
 }
 
 // Limits of docs/RULES.md.

@@ -59,7 +59,7 @@ func TestWordsOfRefusals(t *testing.T) {
 	}
 }
 
-// Where a limit is passed the words say what is free.
+// Where a limit is passed the words say whose it is, what is free and what is wanted.
 func TestWordsOfALimit(t *testing.T) {
 	root := t.TempDir()
 	s := newSnapshotter(t, root)
@@ -70,7 +70,8 @@ func TestWordsOfALimit(t *testing.T) {
 	_, err = s.store.Charge(ctx, Namespace, "fills", pibroulez.Usage{Blocks: 3, Inodes: 1})
 	granted(t, err)
 	_, err = s.Prepare(ctx, "k", "base")
-	if !errdefs.IsUnavailable(err) || err.Error() != "over limit: free 0 blocks, 6 inodes" {
+	const want = `over limit: free 0 blocks, 6 inodes of tenant "containerd", and snapshot "k" wants 1 blocks, 1 inodes more`
+	if !errdefs.IsUnavailable(err) || err.Error() != want {
 		t.Errorf("%v", err)
 	}
 }

@@ -21,7 +21,7 @@ import (
 	"pibroulez.example/pibroulez"
 )
 
-// Namespace is the one of the store in which all snapshots are: containerd has the names of its own in their keys.
+// Namespace is the one of the store in which the snapshots are that no tenant has.
 const Namespace = "containerd"
 
 // What a block of a usage is, in bytes.
@@ -29,6 +29,9 @@ const blockSize = 4096
 
 // How many snapshots may be active at one time: as many as a store can have slots.
 const mostActive = 4096
+
+// How many inodes a layer may have: as many as a store's may.
+const mostLayerInodes = 1 << 24
 
 // How many snapshots a page of a walk has.
 const pageSize = 64
@@ -42,9 +45,13 @@ type Config struct {
 	// Store is a store that others use too, or nil for one of the snapshotter's own. It has Namespace and this Root, and
 	// whoever has opened it closes it and begins its rounds. Program has no meaning then.
 	Store *pibroulez.Store
-	// Charge makes a call that charges 1/1, as one that first gets a limit of a cluster for it, or is nil where the call is
-	// made as it is. The call may be made again where it was pibroulez.ErrOverLimit.
-	Charge func(ctx context.Context, call func(context.Context) error) error
+	// Tenants are the namespaces of containerd that are namespaces of the store too: each has the snapshots whose keys begin
+	// with its name and a slash, as containerd makes them. Their limits are those of a store of the snapshotter's own that
+	// is new; any other store has to have them already.
+	Tenants map[string]pibroulez.Usage
+	// Charge makes a call that charges a namespace of the store so much more, as one that first gets a limit of a cluster
+	// for it, or is nil where the call is made as it is. The call may be made again where it was pibroulez.ErrOverLimit.
+	Charge func(ctx context.Context, namespace string, more pibroulez.Usage, call func(context.Context) error) error
 	// The most entries of each round of the journal, or the store's default where it is 0.
 	journal uint64
 }
@@ -54,13 +61,14 @@ type Snapshotter struct {
 	store *pibroulez.Store
 	// Whether others use the store too.
 	isShared    bool
+	tenants     map[string]pibroulez.Usage
 	directories *directories
 	times       *times
 	locks       locks
 	// What overlay mounts need beside the store's options.
 	options []string
 	// Makes a call that charges.
-	charge func(ctx context.Context, call func(context.Context) error) error
+	charge func(ctx context.Context, namespace string, more pibroulez.Usage, call func(context.Context) error) error
 	// Calls that change something read, and Close writes.
 	running sync.RWMutex
 }
@@ -93,13 +101,16 @@ func New(ctx context.Context, config Config) (*Snapshotter, error) {
 	s := &Snapshotter{
 		store:       store,
 		isShared:    config.Store != nil,
+		tenants:     config.Tenants,
 		directories: directories,
 		locks:       locks{held: map[string]*lock{}},
 		options:     overlayOptions(root),
 		charge:      config.Charge,
 	}
 	if s.charge == nil {
-		s.charge = func(ctx context.Context, call func(context.Context) error) error { return call(ctx) }
+		s.charge = func(ctx context.Context, _ string, _ pibroulez.Usage, call func(context.Context) error) error {
+			return call(ctx)
+		}
 	}
 	if !s.isShared {
 		store.RollWhenFull(config.journal)
@@ -176,13 +187,18 @@ func isZeroed(path string) bool {
 }
 
 func (c Config) ofStore(root, log string) pibroulez.Config {
+	namespaces := map[string]pibroulez.Usage{Namespace: {Blocks: 1 << 40, Inodes: 1 << 40}}
+	for name, limit := range c.Tenants {
+		namespaces[name] = limit
+	}
 	return pibroulez.Config{
-		Program:    c.Program,
-		Root:       root,
-		Namespaces: map[string]pibroulez.Usage{Namespace: {Blocks: 1 << 40, Inodes: 1 << 40}},
-		Slots:      mostActive,
-		Journal:    c.journal,
-		Log:        log,
+		Program:     c.Program,
+		Root:        root,
+		Namespaces:  namespaces,
+		Slots:       mostActive,
+		LayerInodes: mostLayerInodes,
+		Journal:     c.journal,
+		Log:         log,
 	}
 }
 
@@ -201,11 +217,14 @@ func ageOfShared(ctx context.Context, store *pibroulez.Store, directories *direc
 // Compares the directories with the store, and then has each snapshot's there and no other, and begins a new round of the
 // journal. On a full disk it does of this what needs no room.
 func (s *Snapshotter) begin(ctx context.Context, config Config, root string, age rootAge) error {
+	if err := s.hasTenants(ctx); err != nil {
+		return err
+	}
 	// A program of version 0.1.0 takes no question without an entry: it is a fault, and nothing is changed.
 	if _, err := s.store.Walk(ctx, Namespace, "", 1, pibroulez.Filter{}); err != nil {
 		return err
 	}
-	nodes, err := s.store.Tree(ctx, Namespace)
+	nodes, err := s.tree(ctx)
 	if err != nil {
 		return err
 	}
@@ -248,7 +267,7 @@ func (s *Snapshotter) Cleanup(ctx context.Context) error {
 
 func (s *Snapshotter) clean(ctx context.Context) error {
 	return s.directories.clean(func() ([]pibroulez.Node, error) {
-		nodes, err := s.store.Tree(ctx, Namespace)
+		nodes, err := s.tree(ctx)
 		return nodes, subject{}.classified(err)
 	})
 }

@@ -169,7 +169,7 @@ func (t *takeover) keep() error {
 }
 
 // Makes the new log, and compares each answer with that of a process without one, and what the new log's store answers
-// when it is had back.
+// when it is opened again.
 func (t *takeover) make(ctx context.Context) error {
 	folder, err := os.MkdirTemp(t.root, newLogPrefix)
 	if err != nil {

@@ -38,7 +38,7 @@ func serve(ctx context.Context, config containerd.Config, path string) error {
 	if err != nil {
 		return err
 	}
-	snapshots := service.New(snapshotter)
+	snapshots := service.New(snapshotter, nil)
 	served := make(chan error, 1)
 	go func() { served <- snapshots.Serve(listener) }()
 	log.L.WithField("root", config.Root).WithField("socket", path).Info("serving")

@@ -4,6 +4,7 @@ package service
 import (
 	"context"
 	"net"
+	"path"
 	"time"
 
 	snapshotsapi "github.com/containerd/containerd/api/services/snapshots/v1"
@@ -22,9 +23,14 @@ const patience = 20 * time.Second
 // A Service answers the calls that come by its listeners.
 type Service struct{ server *grpc.Server }
 
-// New makes a service of a snapshotter, which it doesn't close.
-func New(snapshotter snapshots.Snapshotter) *Service {
-	server := grpc.NewServer(grpc.UnaryInterceptor(logged), grpc.StreamInterceptor(loggedStream))
+// New makes a service of a snapshotter, which it doesn't close. It tells how long each call took, by its name as Prepare,
+// where observe isn't nil.
+func New(snapshotter snapshots.Snapshotter, observe func(call string, took time.Duration)) *Service {
+	if observe == nil {
+		observe = func(string, time.Duration) {}
+	}
+	o := observer(observe)
+	server := grpc.NewServer(grpc.UnaryInterceptor(o.unary), grpc.StreamInterceptor(o.stream))
 	snapshotsapi.RegisterSnapshotsServer(server, snapshotservice.FromSnapshotter(snapshotter))
 	return &Service{server}
 }
@@ -39,24 +45,29 @@ func (s *Service) End() {
 	s.server.GracefulStop()
 }
 
-// Writes a line for a call, where the level has such lines.
-func logged(ctx context.Context, request any, info *grpc.UnaryServerInfo, handler grpc.UnaryHandler) (any, error) {
+// Is told how long calls took.
+type observer func(call string, took time.Duration)
+
+func (o observer) unary(ctx context.Context, request any, info *grpc.UnaryServerInfo, handler grpc.UnaryHandler) (any, error) {
 	began := time.Now()
 	answer, err := handler(ctx, request)
-	tell(log.L.WithField("request", request), info.FullMethod, began, err)
+	o.tell(log.L.WithField("request", request), info.FullMethod, began, err)
 	return answer, err
 }
 
 // Does so for a call with many answers, and gives its error the class that containerd's service gives those of others.
-func loggedStream(server any, stream grpc.ServerStream, info *grpc.StreamServerInfo, handler grpc.StreamHandler) error {
+func (o observer) stream(server any, stream grpc.ServerStream, info *grpc.StreamServerInfo, handler grpc.StreamHandler) error {
 	began := time.Now()
 	err := errdefs.ToGRPC(handler(server, stream))
-	tell(log.L, info.FullMethod, began, err)
+	o.tell(log.L, info.FullMethod, began, err)
 	return err
 }
 
-func tell(entry *logrus.Entry, method string, began time.Time, err error) {
-	entry = entry.WithField("took", time.Since(began)).WithField("code", status.Code(err))
+// Tells a call, and writes a line for it where the level has such lines.
+func (o observer) tell(entry *logrus.Entry, method string, began time.Time, err error) {
+	took := time.Since(began)
+	o(path.Base(method), took)
+	entry = entry.WithField("took", took).WithField("code", status.Code(err))
 	if err != nil {
 		entry = entry.WithError(err)
 	}
