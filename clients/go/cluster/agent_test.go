@@ -156,6 +156,14 @@ func TestRuleNoRaiseWithoutAWrite(t *testing.T) {
 	}
 }
 
+// The revision of the first shard as the node knows it, and that its watch hasn't told anything.
+func (n *node) knownShard(tenant string) int64 { return n.tenants[tenant].known.shards[0].revision }
+
+func (n *node) seenNothing(tenant string) {
+	n.tenants[tenant].seen.Store(0)
+	n.tenants[tenant].seenShards[0].Store(0)
+}
+
 // Gives back what isn't charged.
 func (n *node) giveBack(tenant string) error {
 	t := n.tenants[tenant]
@@ -275,21 +283,21 @@ func TestRuleAKnownChangeIsReadFirst(t *testing.T) {
 	must(0, one.take("a", "k", usage(10, 10)))(t)
 	for i := 0; i < 5; i++ {
 		must(0, two.take("a", fmt.Sprint(i), usage(5, 5)))(t)
-		changed := two.tenants["a"].known.tenantRev
-		until(t, "the change at the watch", func() bool { return one.tenants["a"].seen.Load() >= changed })
+		changed := two.knownShard("a")
+		until(t, "the change at the watch", func() bool { return one.tenants["a"].seenShards[0].Load() >= changed })
 		before := must(one.Metrics(ctx))(t)
 		must(0, one.take("a", fmt.Sprint(i), usage(5, 5)))(t)
 		after := must(one.Metrics(ctx))(t)
 		equal(t, after.LostCompares, before.LostCompares)
 		equal(t, after.Reads, before.Reads+1)
 		until(t, "the change at the other watch", func() bool {
-			return two.tenants["a"].seen.Load() >= one.tenants["a"].known.tenantRev
+			return two.tenants["a"].seenShards[0].Load() >= one.knownShard("a")
 		})
 	}
 	// As if the watch hadn't told.
 	must(0, two.take("a", "last", usage(5, 5)))(t)
-	until(t, "the change at the watch", func() bool { return one.tenants["a"].seen.Load() >= two.tenants["a"].known.tenantRev })
-	one.tenants["a"].seen.Store(0)
+	until(t, "the change at the watch", func() bool { return one.tenants["a"].seenShards[0].Load() >= two.knownShard("a") })
+	one.seenNothing("a")
 	before := must(one.Metrics(ctx))(t)
 	must(0, one.take("a", "last", usage(5, 5)))(t)
 	equal(t, must(one.Metrics(ctx))(t).LostCompares, before.LostCompares+1)
@@ -322,16 +330,16 @@ func TestRuleALateWatchRefusesNothing(t *testing.T) {
 	w.limit("a", 100, 100)
 	one := w.node("one", func(c *Config) { c.Batch = usage(1, 1) }).settle()
 	must(0, one.take("a", "k", usage(50, 10)))(t)
-	known := one.tenants["a"].known.tenantRev
+	known := one.knownShard("a")
 	w.limit("a", 200, 200)
-	until(t, "the change at the watch", func() bool { return one.tenants["a"].seen.Load() > known })
+	until(t, "the change at the watch", func() bool { return one.tenants["a"].seenShards[0].Load() > known })
 	// As if the watch hadn't told.
-	one.tenants["a"].seen.Store(0)
+	one.seenNothing("a")
 	before := must(one.Metrics(ctx))(t)
 	must(0, one.take("a", "l", usage(120, 1)))(t)
 	equal(t, must(one.Metrics(ctx))(t).Reads, before.Reads+1)
 	// What is refused was read once.
-	one.tenants["a"].seen.Store(0)
+	one.seenNothing("a")
 	isError(t, one.take("a", "m", usage(120, 1)), pibroulez.ErrOverLimit)
 	equal(t, must(one.Metrics(ctx))(t).Reads, before.Reads+2)
 	w.check()
@@ -366,9 +374,9 @@ func TestRuleNothingElseWrites(t *testing.T) {
 			t.Errorf("no %s in %v", it, kinds)
 		}
 	}
-	stranger := revision{1, map[string][]byte{w.prefix + "/g/x/a": nil}}
+	stranger := revision{1, map[string][]byte{w.prefix + "/g/x/a": {1}}}
 	if _, err := stranger.kind(w.operator.keys); err == nil {
-		t.Error("a grant that is deleted alone is taken")
+		t.Error("a grant that is written alone is taken")
 	}
 }
 

@@ -105,6 +105,9 @@ func workNode(folder string) int {
 	if err == nil {
 		err = w.begin()
 	}
+	if errors.Is(err, pibroulez.ErrDied) {
+		return lostStore
+	}
 	if err != nil {
 		fmt.Println(err)
 		return hasNoStart
@@ -283,7 +286,7 @@ func chaosSize(t *testing.T) (how time.Duration, nodes, tenants int) {
 	switch {
 	case err == nil && seconds <= 60 || err != nil && !isLong():
 		if err != nil {
-			seconds = 12
+			seconds = 9
 		}
 		return time.Duration(seconds) * time.Second, 4, 3
 	case err != nil:
@@ -304,6 +307,8 @@ func TestChaos(t *testing.T) {
 	for i := 0; i < tenants; i++ {
 		c.tenants = append(c.tenants, fmt.Sprint("t", i))
 		c.world.limit(c.tenants[i], c.limit.Blocks, c.limit.Inodes)
+		// The pools of a half are in one shard, and of the others in several.
+		must(0, c.operator.SetShards(ctx, c.tenants[i], 1+i%2*(1+i)))(t)
 	}
 	for i := 0; i < nodes; i++ {
 		c.nodes = append(c.nodes, &chaosNode{name: fmt.Sprint("n", i), folder: filepath.Join(c.folder, fmt.Sprint("n", i))})
@@ -632,7 +637,7 @@ func (c *chaos) compare(now *snapshot) {
 		}
 	}
 	for i, tenant := range c.tenants {
-		if !covers(bounds[tenant], charged[tenant]) || !covers(now.tenants[tenant].Granted, bounds[tenant]) {
+		if !covers(bounds[tenant], charged[tenant]) || !covers(now.grantedOf(tenant), bounds[tenant]) {
 			c.t.Errorf("frozen: tenant %s: charged %v, limits %v, %+v", tenant, charged[tenant], bounds[tenant], now.tenants[tenant])
 		}
 		if i < c.fixed {

@@ -151,11 +151,16 @@ type Agent struct {
 	ended chan struct{}
 	end   *StateError
 
-	isJoined, isDrained atomic.Bool
+	isRestored, isDrained atomic.Bool
+	// The generation in which the store has joined, or noGeneration, and the number of the last one that was seen.
+	generation atomic.Pointer[generation]
+	seen       atomic.Uint64
 	// Wakes who joins.
 	join chan struct{}
-	// How many stores have joined.
-	stores atomic.Int64
+	// How many stores have joined, and how many of them come before this one.
+	stores, place atomic.Int64
+	// Have all watches opened anew, and tell of a change of the state.
+	renewal, told renewal
 	// The lease of its hints, or 0.
 	leased atomic.Int64
 	rooms  rooms
@@ -181,11 +186,12 @@ func New(ctx context.Context, config Config) (*Agent, error) {
 	}
 	now := time.Now()
 	a := &Agent{
-		config: config, transactions: transactions{config.Client.KV, keysOf(config.Prefix)}, tenants: map[string]*tenant{},
+		config: config, transactions: transactions{kv: config.Client.KV, keys: keysOf(config.Prefix)}, tenants: map[string]*tenant{},
 		store: store, process: hex.EncodeToString(bits[:]), settled: make(chan struct{}), ended: make(chan struct{}),
 		join: make(chan struct{}, 1), counters: counters{answered: now, status: Status{Since: now}},
-		rooms: rooms{make(chan struct{}, 1), map[string]*snapshot{}},
+		rooms: rooms{make(chan struct{}, 1), map[string]*snapshot{}}, renewal: renewal{is: make(chan struct{})}, told: renewal{is: make(chan struct{})},
 	}
+	a.generation.Store(noGeneration)
 	a.ctx, a.cancel = context.WithCancel(context.Background())
 	for _, name := range tenants {
 		a.tenants[name] = newTenant(name)

@@ -86,6 +86,9 @@ var shared struct {
 	err  error
 }
 
+// How long something may take on a machine that has much else to do.
+const patience = time.Minute
+
 // The etcd of all tests.
 func sharedEtcd(t testing.TB) *etcd {
 	t.Helper()
@@ -126,7 +129,7 @@ func startEtcd() (*etcd, error) {
 			return e, err
 		}
 	}
-	return e, e.awaitAnswer(60 * time.Second)
+	return e, e.awaitAnswer(patience)
 }
 
 func (e *etcd) start(m *member) error {
@@ -298,7 +301,7 @@ func (n *node) settle() *node {
 	case <-n.Settled():
 	case <-n.Ended():
 		n.world.t.Fatal(n.Status().Err)
-	case <-time.After(30 * time.Second):
+	case <-time.After(patience):
 		n.world.t.Fatalf("%s doesn't settle: %v", n.name, n.Status())
 	}
 	return n
@@ -335,7 +338,7 @@ func equal(t testing.TB, got, want any) {
 func until(t testing.TB, what string, is func() bool) {
 	t.Helper()
 	for begin := time.Now(); !is(); time.Sleep(5 * time.Millisecond) {
-		if time.Since(begin) > 30*time.Second {
+		if time.Since(begin) > patience {
 			t.Fatal("it doesn't come: " + what)
 		}
 	}

@@ -3,6 +3,7 @@ package cluster
 import (
 	"context"
 	"errors"
+	"strings"
 	"sync"
 	"time"
 
@@ -25,7 +26,7 @@ func (a *Agent) watching(once func(ctx context.Context)) {
 }
 
 // Calls a function with each event of some watches, until one breaks.
-func (a *Agent) events(ctx context.Context, handle func(*clientv3.Event), watches ...clientv3.WatchChan) {
+func (a *Agent) events(ctx context.Context, renewed <-chan struct{}, handle func(*clientv3.Event), watches ...clientv3.WatchChan) {
 	ctx, cancel := context.WithCancel(ctx)
 	var group sync.WaitGroup
 	var mutex sync.Mutex
@@ -46,6 +47,8 @@ func (a *Agent) events(ctx context.Context, handle func(*clientv3.Event), watche
 						handle(it)
 					}
 					mutex.Unlock()
+				case <-renewed:
+					return
 				case <-a.ended:
 					return
 				case <-ctx.Done():
@@ -60,31 +63,64 @@ func (a *Agent) events(ctx context.Context, handle func(*clientv3.Event), watche
 
 // Follows a tenant's record, and who waits for room.
 func (a *Agent) follow(t *tenant) {
-	wants := a.keys.wants(t.name)
+	record, shards, wants := a.keys.tenant(t.name), a.keys.shards(t.name), a.keys.wants(t.name)
 	a.watching(func(ctx context.Context) {
-		var found *clientv3.GetResponse
+		renewed := a.renewal.now()
+		var found *clientv3.TxnResponse
 		err := a.ask(ctx, func(ctx context.Context) (err error) {
-			found, err = a.kv.Get(ctx, wants, clientv3.WithPrefix())
+			found, err = a.kv.Txn(ctx).Then(clientv3.OpGet(wants, clientv3.WithPrefix()), clientv3.OpGet(record, clientv3.WithKeysOnly()),
+				clientv3.OpGet(shards, clientv3.WithPrefix(), clientv3.WithKeysOnly())).Commit()
 			return err
 		})
 		if err != nil {
 			return
 		}
 		others := map[string]bool{}
-		for _, it := range found.Kvs {
+		for _, it := range answer(found, 0).Kvs {
 			a.recall(t, others, string(it.Key), true)
 		}
 		defer t.others.Store(0)
 		from := clientv3.WithRev(found.Header.Revision + 1)
-		t.change(0)
-		a.events(ctx, func(it *clientv3.Event) {
-			if key := string(it.Kv.Key); key == a.keys.tenant(t.name) {
-				t.change(it.Kv.ModRevision)
-			} else {
-				a.recall(t, others, key, it.Type == mvccpb.PUT)
+		t.seeNothing()
+		for _, number := range []int{1, 2} {
+			for _, it := range answer(found, number).Kvs {
+				a.change(t, it)
 			}
-		}, a.config.Client.Watch(ctx, a.keys.tenant(t.name), from), a.config.Client.Watch(ctx, wants, from, clientv3.WithPrefix()))
+		}
+		t.wakeWaiting()
+		a.events(ctx, renewed, func(it *clientv3.Event) {
+			if key := string(it.Kv.Key); strings.HasPrefix(key, wants) {
+				a.recall(t, others, key, it.Type == mvccpb.PUT)
+			} else {
+				a.change(t, it.Kv)
+				t.wakeWaiting()
+			}
+		}, a.config.Client.Watch(ctx, record, from), a.config.Client.Watch(ctx, shards, from, clientv3.WithPrefix()),
+			a.config.Client.Watch(ctx, wants, from, clientv3.WithPrefix()))
 	})
+}
+
+// The tenant's record or one of its shards has this revision.
+func (a *Agent) change(t *tenant, it *mvccpb.KeyValue) {
+	seen := &t.seen
+	if _, parts := a.keys.parts(string(it.Key)); len(parts) == 2 {
+		number, isShard := shardOf(parts[1])
+		if !isShard {
+			return
+		}
+		seen = &t.seenShards[number]
+	}
+	if it.ModRevision > seen.Load() {
+		seen.Store(it.ModRevision)
+	}
+}
+
+// As a watch begins: what an earlier one has told may be of before a restore.
+func (t *tenant) seeNothing() {
+	t.seen.Store(0)
+	for i := range t.seenShards {
+		t.seenShards[i].Store(0)
+	}
 }
 
 // Another store waits for room, or no longer.
@@ -100,13 +136,15 @@ func (a *Agent) recall(t *tenant, others map[string]bool, key string, isWaiting 
 	}
 }
 
-// Follows how many stores have joined, and whether this one is drained.
+// Follows which stores have joined, whether this one is drained, and the generation.
 func (a *Agent) followStores() {
-	joined, drained := a.keys.joined(""), a.keys.drained(a.store)
+	joined, drained, generation := a.keys.joined(""), a.keys.drained(a.store), a.keys.generation()
 	a.watching(func(ctx context.Context) {
+		renewed := a.renewal.now()
 		var found *clientv3.TxnResponse
 		err := a.ask(ctx, func(ctx context.Context) (err error) {
-			found, err = a.kv.Txn(ctx).Then(clientv3.OpGet(joined, clientv3.WithPrefix(), clientv3.WithKeysOnly()), clientv3.OpGet(drained, clientv3.WithCountOnly())).Commit()
+			found, err = a.kv.Txn(ctx).Then(clientv3.OpGet(joined, clientv3.WithPrefix(), clientv3.WithKeysOnly()),
+				clientv3.OpGet(drained, clientv3.WithCountOnly()), clientv3.OpGet(generation)).Commit()
 			return err
 		})
 		if err != nil {
@@ -116,29 +154,57 @@ func (a *Agent) followStores() {
 		for _, it := range answer(found, 0).Kvs {
 			stores[string(it.Key)] = true
 		}
-		a.stores.Store(int64(len(stores)))
+		a.arrange(stores)
 		a.drain(answer(found, 1).Count > 0)
+		for _, it := range answer(found, 2).Kvs {
+			a.compareGeneration(it)
+		}
 		from := clientv3.WithRev(found.Header.Revision + 1)
-		a.events(ctx, func(it *clientv3.Event) {
+		a.events(ctx, renewed, func(it *clientv3.Event) {
 			isPut := it.Type == mvccpb.PUT
-			if key := string(it.Kv.Key); key == drained {
+			switch key := string(it.Kv.Key); {
+			case key == drained:
 				a.drain(isPut)
 				return
-			} else if isPut {
+			case key == generation:
+				a.compareGeneration(it.Kv)
+				return
+			case isPut:
 				stores[key] = true
-			} else {
+			default:
 				delete(stores, key)
 				a.lack(key)
 			}
-			a.stores.Store(int64(len(stores)))
-		}, a.config.Client.Watch(ctx, joined, from, clientv3.WithPrefix()), a.config.Client.Watch(ctx, drained, from))
+			a.arrange(stores)
+		}, a.config.Client.Watch(ctx, joined, from, clientv3.WithPrefix()), a.config.Client.Watch(ctx, drained, from),
+			a.config.Client.Watch(ctx, generation, from))
 	})
+}
+
+// How many stores there are, and how many come before this one.
+func (a *Agent) arrange(stores map[string]bool) {
+	own, place := a.keys.joined(a.store), int64(0)
+	for it := range stores {
+		if it < own {
+			place++
+		}
+	}
+	a.stores.Store(int64(len(stores)))
+	a.place.Store(place)
+}
+
+// Where the generation isn't the one in which the store has joined, who joins finds out why.
+func (a *Agent) compareGeneration(it *mvccpb.KeyValue) {
+	if of := a.generation.Load(); string(it.Value) != of.text {
+		a.look(of, errGeneration)
+		a.wakeJoin()
+	}
 }
 
 // A store's record of having joined is gone. Where it is this one's, who joins finds out why.
 func (a *Agent) lack(key string) {
 	if key == a.keys.joined(a.store) {
-		a.look(errNotJoined)
+		a.look(a.generation.Load(), errNotJoined)
 	}
 }
 
@@ -200,10 +266,7 @@ func (a *Agent) report(lease clientv3.LeaseID, alive <-chan *clientv3.LeaseKeepA
 			now := a.uses(quotas)
 			if last == nil || quiet >= mostQuiet || !areEqual(last, now) {
 				record := presence{a.config.Node, time.Now().UnixMilli(), now}
-				err := a.ask(a.ctx, func(ctx context.Context) error {
-					_, err := a.kv.Put(ctx, a.keys.present(a.store), text(record), clientv3.WithLease(lease))
-					return err
-				})
+				err := a.ask(a.ctx, func(ctx context.Context) error { return a.tellPresence(ctx, record, lease) })
 				if err == nil {
 					last, quiet = now, 0
 				}
@@ -224,6 +287,18 @@ func (a *Agent) report(lease clientv3.LeaseID, alive <-chan *clientv3.LeaseKeepA
 			}
 		}
 	}
+}
+
+// Tells it in whatever generation. It finds out where that is another one than the agent's.
+func (a *Agent) tellPresence(ctx context.Context, record presence, lease clientv3.LeaseID) error {
+	of := a.generation.Load()
+	tell := clientv3.OpPut(a.keys.present(a.store), text(record), clientv3.WithLease(lease))
+	r, err := a.commit(ctx, of, []clientv3.Cmp{of.isCurrent(a.keys)}, []clientv3.Op{tell}, []clientv3.Op{tell})
+	if err == nil && !r.Succeeded || errors.Is(err, errGeneration) {
+		a.look(of, errGeneration)
+		err = nil
+	}
+	return err
 }
 
 // How many reports are left out where nothing has changed.
@@ -318,8 +393,7 @@ func (a *Agent) refused(ctx context.Context, t *tenant, need Usage, cause error)
 }
 
 func (a *Agent) tellRoom(refused *Refused, room *snapshot) {
-	record := room.tenants[refused.Tenant]
-	refused.Limit, refused.Free = record.Limit, minus(record.Limit, record.Granted)
+	refused.Limit, refused.Free = room.tenants[refused.Tenant].Limit, room.freeOf(refused.Tenant)
 	hasRoom := false
 	for store, it := range room.present {
 		if store == a.store {
@@ -350,8 +424,8 @@ func (a *Agent) room(ctx context.Context, tenant string) (*snapshot, error) {
 		return found, nil
 	}
 	found := newSnapshot()
-	err := a.get(ctx, found, clientv3.OpGet(a.keys.tenant(tenant)), clientv3.OpGet(a.keys.present(""), clientv3.WithPrefix()),
-		clientv3.OpGet(a.keys.joined(""), clientv3.WithPrefix()))
+	err := a.get(ctx, found, clientv3.OpGet(a.keys.tenant(tenant)), clientv3.OpGet(a.keys.shards(tenant), clientv3.WithPrefix()),
+		clientv3.OpGet(a.keys.present(""), clientv3.WithPrefix()), clientv3.OpGet(a.keys.joined(""), clientv3.WithPrefix()))
 	var silent []clientv3.Op
 	for store := range found.joined {
 		if _, answers := found.present[store]; !answers && store != a.store {

@@ -61,29 +61,40 @@ func (w *world) history() []revision {
 	return all
 }
 
-// What a revision may change: one of the four transactions, or hints.
+// What a revision may change: one of the transactions, or hints. A shard of a tenant's pool is "s".
 var shapes = map[string]string{
-	"+j": "join", "+g +t": "grant", "+t": "limit", "+f -j": "mark", "+t -g": "free",
+	"+j": "join", "+g +s": "grant", "+g +t": "grant", "+g +s +t": "grant", "+s +t": "limit", "+s +t -s": "limit", "+f -j": "mark",
+	"+s -g": "free", "+t -g": "free", "+s +t -g": "free", "-g": "drop", "+e": "generation", "+g +j": "register",
 	"+a": "", "-a": "", "+w": "", "-w": "", "+d": "", "-d": "", "-a -w": "",
 }
 
+// How many keys of grants, and of tenants, a revision of each kind may change.
+var mostKeys = map[string][2]int{
+	"grant": {1, 1}, "limit": {0, 1}, "free": {1, 1}, "drop": {1, 0}, "register": {MostShards, 0},
+}
+
 func (r *revision) kind(keys keys) (string, error) {
-	letters := map[string]bool{}
-	count := 0
+	letters, grants, tenants, others := map[string]bool{}, 0, map[string]bool{}, 0
 	for key, value := range r.changes {
-		letter, _ := keys.parts(key)
+		letter, parts := keys.parts(key)
+		switch letter {
+		case "t":
+			if tenants[parts[0]] = true; len(parts) == 2 {
+				letter = "s"
+			}
+		case "g":
+			grants++
+		case "j", "f", "e":
+			others++
+		}
 		sign := "+"
 		if value == nil {
 			sign = "-"
 		}
 		letters[sign+letter] = true
-		if letter != "w" && letter != "a" {
-			count++
-		}
 	}
-	shape := strings.Join(sorted(letters), " ")
-	kind, isKnown := shapes[shape]
-	if !isKnown || count > 2 {
+	kind, isKnown := shapes[strings.Join(sorted(letters), " ")]
+	if !isKnown || grants > mostKeys[kind][0] || len(tenants) > mostKeys[kind][1] || others > 2 {
 		return "", fmt.Errorf("revision %d: no transaction writes %v", r.number, sorted(r.changes))
 	}
 	return kind, nil
@@ -93,28 +104,43 @@ func (r *revision) kind(keys keys) (string, error) {
 // transactions has written what grants depend on. How many revisions had a raise, and how many of each kind there are.
 func (w *world) checkHistory(history []revision) (kinds map[string]int) {
 	w.t.Helper()
+	return w.checkFrom(newSnapshot(), history)
+}
+
+// From what etcd had before.
+func (w *world) checkFrom(s *snapshot, history []revision) (kinds map[string]int) {
+	w.t.Helper()
 	kinds = map[string]int{}
-	s := newSnapshot()
-	for _, it := range history {
+	for at, it := range history {
 		kind, err := it.kind(w.operator.keys)
 		if err != nil {
 			w.t.Fatal(err)
 		}
 		kinds[kind]++
-		before := map[string]tenantRecord{}
-		for key, value := range it.changes {
+		before := map[string]Usage{}
+		for key := range it.changes {
 			if letter, parts := w.operator.keys.parts(key); letter == "t" {
-				before[parts[0]] = s.tenants[parts[0]]
-			}
-			if err := s.put(w.operator.keys, key, value); err != nil {
-				w.t.Fatal(err)
+				before[parts[0]] = s.grantedOf(parts[0])
 			}
 		}
-		if faults := s.faults(); len(faults) > 0 {
+		wasOpen := s.isOpen()
+		if isOpenAlone, isClosedAlone := phases(kind); isOpenAlone && !wasOpen || isClosedAlone && wasOpen {
+			w.t.Fatalf("revision %d: a %s in phase %q", it.number, kind, s.generation.Phase)
+		}
+		must(0, s.putAll(w.operator.keys, &it))(w.t)
+		// All sums now and then, and those that have changed each time.
+		faults := []string(nil)
+		if at%100 == 0 || at == len(history)-1 || wasOpen != s.isOpen() {
+			faults = s.faults()
+		}
+		for tenant := range before {
+			faults = append(faults, s.faultsOf(tenant, s.sumOf(tenant))...)
+		}
+		if len(faults) > 0 && s.isOpen() {
 			w.t.Fatalf("revision %d: %v", it.number, faults)
 		}
 		for tenant, old := range before {
-			if why := overgranted(old, s.tenants[tenant]); why != "" {
+			if why := overgranted(old, s.grantedOf(tenant), s.tenants[tenant].Limit); why != "" && wasOpen {
 				w.t.Fatalf("revision %d: tenant %s: %s", it.number, tenant, why)
 			}
 		}
@@ -122,10 +148,33 @@ func (w *world) checkHistory(history []revision) (kinds map[string]int) {
 	return kinds
 }
 
-func overgranted(old, now tenantRecord) string {
+// In which phases a revision of this kind may be: an open one alone, or any other alone.
+func phases(kind string) (isOpenAlone, isClosedAlone bool) {
+	return kind == "grant" || kind == "join" || kind == "free", kind == "register" || kind == "drop"
+}
+
+// The sum of a tenant's grants.
+func (s *snapshot) sumOf(tenant string) (sum Usage) {
+	for _, grants := range s.grants {
+		sum = plus(sum, grants[tenant].Grant)
+	}
+	return sum
+}
+
+// All that a revision has changed.
+func (s *snapshot) putAll(keys keys, it *revision) error {
+	for key, value := range it.changes {
+		if err := s.put(keys, key, value); err != nil {
+			return err
+		}
+	}
+	return nil
+}
+
+func overgranted(old, now, limit Usage) string {
 	isOver := func(old, now, limit uint64) bool { return now > old && now > limit }
-	if isOver(old.Granted.Blocks, now.Granted.Blocks, now.Limit.Blocks) || isOver(old.Granted.Inodes, now.Granted.Inodes, now.Limit.Inodes) {
-		return fmt.Sprintf("the sum was raised from %v to %v above the limit %v", old.Granted, now.Granted, now.Limit)
+	if isOver(old.Blocks, now.Blocks, limit.Blocks) || isOver(old.Inodes, now.Inodes, limit.Inodes) {
+		return fmt.Sprintf("the sum was raised from %v to %v above the limit %v", old, now, limit)
 	}
 	return ""
 }
@@ -368,62 +417,100 @@ var quantities = map[string]quantity{
 // Takes a run as a walk in the model: each revision of etcd that changes the tenant, and each line of a log. How many
 // steps it has.
 func walk(keys keys, history []revision, stores []*recorded, tenant string, of quantity) (int, error) {
-	w := model.NewWalk()
-	left := map[string][]moment{}
+	return walkAll(keys, [][]revision{history}, stores, tenant, of)
+}
+
+// Takes it of several histories of etcd. Each but the last has ended, and the next one goes on from a backup that was made
+// at the revision before its first one.
+func walkAll(keys keys, histories [][]revision, stores []*recorded, tenant string, of quantity) (int, error) {
+	w := &walking{Walk: model.NewWalk(), keys: keys, tenant: tenant, of: of, left: map[string][]moment{}}
 	for _, it := range stores {
 		moments, err := it.moments(tenant)
 		if err != nil {
 			return 0, err
 		}
-		left[it.store] = moments
+		w.left[it.store] = moments
 	}
-	// Takes what a store has seen, up to where a transaction was sent, or all.
-	advance := func(store, sent string) error {
-		for len(left[store]) > 0 {
-			it := left[store][0]
-			left[store] = left[store][1:]
-			if err := walkMoment(w, store, it, of, sent); err != nil {
-				return err
-			}
-			if it.kind == sending && it.id == sent {
-				return nil
+	var past []revision
+	for i, history := range histories {
+		if i > 0 {
+			if err := w.restore(past, history[0].number); err != nil {
+				return w.Steps, err
 			}
 		}
-		if sent != "" {
-			return fmt.Errorf("store %s has a grant by %s, which no agent has sent", store, sent)
+		for _, it := range history {
+			if err := w.revision(&it); err != nil {
+				return w.Steps, fmt.Errorf("revision %d: %w", it.number, err)
+			}
 		}
-		return nil
-	}
-	for _, it := range history {
-		if err := walkRevision(w, keys, &it, tenant, of, advance); err != nil {
-			return w.Steps, fmt.Errorf("revision %d: %w", it.number, err)
-		}
+		past = append(past, history...)
 	}
 	for _, it := range stores {
 		if _, err := w.Node(it.store); err != nil {
 			continue
 		}
-		if err := advance(it.store, ""); err != nil {
+		if err := w.advance(it.store, "", model.Change{}); err != nil {
 			return w.Steps, err
 		}
 	}
 	return w.Steps, nil
 }
 
-func walkMoment(w *model.Walk, store string, it moment, of quantity, sent string) error {
+// A walk in the model of a tenant in one quantity, and what etcd has at the revision that it is at.
+type walking struct {
+	*model.Walk
+	keys   keys
+	tenant string
+	of     quantity
+	left   map[string][]moment
+	now    *snapshot
+}
+
+// Goes on from the backup of a history.
+func (w *walking) restore(past []revision, until int64) error {
+	w.now = newSnapshot()
+	for i := range past {
+		if past[i].number < until {
+			if err := w.now.putAll(w.keys, &past[i]); err != nil {
+				return err
+			}
+		}
+	}
+	return w.Restore(w.of(w.now.tenants[w.tenant].Limit))
+}
+
+// Takes what a store has seen, up to where a transaction was sent, or all.
+func (w *walking) advance(store, sent string, change model.Change) error {
+	for len(w.left[store]) > 0 {
+		it := w.left[store][0]
+		w.left[store] = w.left[store][1:]
+		if err := w.moment(store, it, sent, change); err != nil {
+			return err
+		}
+		if it.kind == sending && it.id == sent {
+			return nil
+		}
+	}
+	if sent != "" {
+		return fmt.Errorf("store %s has a grant by %s, which no agent has sent", store, sent)
+	}
+	return nil
+}
+
+func (w *walking) moment(store string, it moment, sent string, change model.Change) error {
 	switch it.kind {
 	case begun:
 		return w.Begin(store)
 	case ending:
 		return w.End(store)
 	case charging:
-		return w.Charged(store, of(it.to))
+		return w.Charged(store, w.of(it.to))
 	case bounding:
-		return w.Bound(store, of(it.to))
+		return w.Bound(store, w.of(it.to))
 	case sending:
 		// Of the others none was carried out.
 		if it.id == sent {
-			return w.Send(store, it.id, of(it.to))
+			return w.Send(store, it.id, w.of(it.to), change)
 		}
 	case answered:
 		return w.Answer(store, it.id)
@@ -431,54 +518,121 @@ func walkMoment(w *model.Walk, store string, it moment, of quantity, sent string
 	return nil
 }
 
-func walkRevision(w *model.Walk, keys keys, it *revision, tenant string, of quantity, advance func(store, sent string) error) error {
-	kind, err := it.kind(keys)
+// What is free in the first shard, and in all others together.
+func (w *walking) free() (free model.Shards) {
+	for number, it := range w.now.shards[w.tenant] {
+		if number == 0 {
+			free[0] = w.of(it.Free)
+		} else {
+			free[1] += w.of(it.Free)
+		}
+	}
+	return free
+}
+
+func (w *walking) revision(it *revision) error {
+	if w.now == nil {
+		w.now = newSnapshot()
+	}
+	kind, err := it.kind(w.keys)
 	if err != nil {
 		return err
 	}
+	before, wasOpen := w.free(), w.now.isOpen()
+	if err := w.now.putAll(w.keys, it); err != nil {
+		return err
+	}
+	after := w.free()
+	var change model.Change
+	for i := range before {
+		if before[i] > after[i] {
+			change.Takes[i] = before[i] - after[i]
+		} else if before[i] < after[i] {
+			change.Back = uint8(i)
+		}
+	}
+	if err := w.take(kind, it, change, wasOpen); err != nil {
+		return err
+	}
+	record, state := w.now.tenants[w.tenant], w.State()
+	isAsEtcd := state.Limit == w.of(record.Limit) && state.Free == after && state.Debt == w.of(record.Debt)
+	if !state.IsClosed && !isAsEtcd {
+		err = fmt.Errorf("the model is at limit %d, debt %d, free %d, and etcd at %+v, %d free", state.Limit, state.Debt, state.Free, record, after)
+	}
+	return err
+}
+
+// Takes a revision of this kind.
+func (w *walking) take(kind string, it *revision, change model.Change, wasOpen bool) error {
 	var store string
-	var record tenantRecord
-	var grant grantRecord
+	var grant *grantRecord
 	isOfTenant := false
-	for key, value := range it.changes {
-		letter, parts := keys.parts(key)
+	for key := range it.changes {
+		letter, parts := w.keys.parts(key)
 		switch letter {
 		case "j":
 			store = parts[0]
 		case "g":
 			store = parts[0]
-			if value != nil {
-				err = json.Unmarshal(value, &grant)
+			if its, isThere := w.now.grants[store][w.tenant]; isThere && parts[1] == w.tenant {
+				grant = &its
 			}
-		case "t":
-			isOfTenant = parts[0] == tenant
-			err = json.Unmarshal(value, &record)
 		}
-		if err != nil {
-			return err
-		}
+		isOfTenant = isOfTenant || (letter == "t" || letter == "g") && parts[len(parts)-1] == w.tenant || letter == "t" && parts[0] == w.tenant
 	}
 	switch {
 	case kind == "join":
-		return w.Join(store)
+		return w.joinOnce(store)
 	case kind == "mark":
-		return advance(store, "")
+		err := w.advance(store, "", model.Change{})
+		if err == nil && w.State().IsClosed {
+			err = w.Forget(store, 0)
+		}
+		return err
+	case kind == "generation":
+		return w.opened(wasOpen)
+	case kind == "register":
+		if err := w.joinOnce(store); err != nil || grant == nil {
+			return err
+		}
+		return w.granted(store, grant, model.Change{})
 	case kind == "" || !isOfTenant:
 		return nil
-	case kind == "limit":
-		err = w.SetLimit(of(record.Limit))
+	case kind == "limit" && wasOpen:
+		return w.SetLimit(w.of(w.now.tenants[w.tenant].Limit), w.free())
+	case w.State().IsClosed:
+		// What a restored etcd has carried out before the next generation began is answered to nobody, and counts for
+		// nothing.
+		return nil
 	case kind == "free":
-		err = w.Forget(store)
+		return w.Forget(store, change.Back)
 	case kind == "grant":
-		id := fmt.Sprintf("%s/%d", grant.By, grant.Number)
-		if err = advance(store, id); err == nil {
-			err = w.Apply(store, id)
-		}
+		return w.granted(store, grant, change)
 	}
-	if state := w.State(); err == nil && (state.Sum != of(record.Granted) || state.Limit != of(record.Limit)) {
-		err = fmt.Errorf("the model is at limit %d, granted %d, and etcd at %+v", state.Limit, state.Sum, record)
+	return nil
+}
+
+func (w *walking) joinOnce(store string) error {
+	if _, err := w.Node(store); err == nil {
+		return nil
 	}
-	return err
+	return w.Join(store)
+}
+
+func (w *walking) granted(store string, grant *grantRecord, change model.Change) error {
+	id := fmt.Sprintf("%s/%d", grant.By, grant.Number)
+	if err := w.advance(store, id, change); err != nil {
+		return err
+	}
+	return w.Apply(store, id)
+}
+
+// The sums were made anew where the cluster is open again. A backup that was made while it was closed is as any other.
+func (w *walking) opened(wasOpen bool) error {
+	if !w.State().IsClosed || wasOpen || !w.now.isOpen() {
+		return nil
+	}
+	return w.Reopen(w.free())
 }
 
 // The stores of a world as they were recorded.

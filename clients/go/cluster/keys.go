@@ -3,6 +3,7 @@ package cluster
 import (
 	"encoding/json"
 	"net/url"
+	"strconv"
 	"strings"
 
 	"pibroulez.example/pibroulez"
@@ -14,8 +15,16 @@ type Usage = pibroulez.Usage
 // keys are those of one cluster of stores. S is a store's identity, and T a tenant, escaped as in a path of a URL.
 type keys struct{ prefix string }
 
-// The tenant's limit and the sum of its grants.
+// The generation of all grants.
+func (k keys) generation() string { return k.prefix + "/e" }
+
+// The tenant's limit, its debt, and how many shards its pool has.
 func (k keys) tenant(tenant string) string { return k.tenants() + url.PathEscape(tenant) }
+
+// What of the pool is free in the shard of a number.
+func (k keys) shard(tenant string, number int) string {
+	return k.shards(tenant) + strconv.Itoa(number)
+}
 
 // The grant of a store.
 func (k keys) grant(store, tenant string) string { return k.grantsOf(store) + url.PathEscape(tenant) }
@@ -40,6 +49,7 @@ func (k keys) drained(store string) string { return k.prefix + "/d/" + store }
 // The beginnings of keys.
 
 func (k keys) tenants() string              { return k.prefix + "/t/" }
+func (k keys) shards(tenant string) string  { return k.tenant(tenant) + "/" }
 func (k keys) grants() string               { return k.prefix + "/g/" }
 func (k keys) grantsOf(store string) string { return k.grants() + store + "/" }
 func (k keys) wants(tenant string) string   { return k.prefix + "/w/" + url.PathEscape(tenant) + "/" }
@@ -58,9 +68,41 @@ func (k keys) parts(key string) (kind string, parts []string) {
 	return parts[0], parts[1:]
 }
 
+// The number of a shard, or false where that is none.
+func shardOf(text string) (int, bool) {
+	number, err := strconv.Atoi(text)
+	return number, err == nil && number >= 0 && number < MostShards && strconv.Itoa(number) == text
+}
+
+// The phases of a generation.
+const (
+	// Grants are raised and lowered.
+	isOpen = "open"
+	// Etcd was restored from a backup: stores register their own limits as their grants, and nothing else is granted.
+	isClosed = "closed"
+	// An operator makes the sums anew: no grant changes.
+	isSumming = "summing"
+)
+
+// A generation of all grants. The next one begins where etcd was restored from a backup. Each transaction compares its
+// text, so that none from before is carried out.
+type generationRecord struct {
+	Number uint64 `json:"e"`
+	// Cluster is the id of etcd's cluster, and Mark are random bits, so that no two generations are the same.
+	Cluster string `json:"c"`
+	Mark    string `json:"m"`
+	Phase   string `json:"s"`
+}
+
 type tenantRecord struct {
-	Limit   Usage `json:"l"`
-	Granted Usage `json:"s"`
+	Limit Usage `json:"l"`
+	// Debt is what is granted above the limit. Nothing is free then.
+	Debt   Usage `json:"d"`
+	Shards int   `json:"k"`
+}
+
+type shardRecord struct {
+	Free Usage `json:"f"`
 }
 
 type grantRecord struct {
@@ -68,10 +110,14 @@ type grantRecord struct {
 	// By is the process that has written it, and Number the number of the transaction there, from 1.
 	By     string `json:"p"`
 	Number uint64 `json:"n"`
+	// Generation is the number of the generation in which it was written.
+	Generation uint64 `json:"e"`
 }
 
 type joinRecord struct {
 	Node string `json:"node"`
+	// Generation is the number of the one in which the store has joined, or has registered its limits.
+	Generation uint64 `json:"e"`
 }
 
 type wantRecord struct {

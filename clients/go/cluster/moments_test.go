@@ -277,16 +277,12 @@ func TestMoments(t *testing.T) {
 // The checks of a run find a sum above the limit, a writer that isn't one of the four, and notes that aren't those of the
 // log.
 func TestChecksFind(t *testing.T) {
-	record := func(limit, granted uint64) tenantRecord { return tenantRecord{usage(limit, limit), usage(granted, 0)} }
 	for _, it := range []struct {
-		old, now tenantRecord
-		isOver   bool
-	}{
-		{record(10, 9), record(10, 11), true}, {record(10, 9), record(10, 10), false}, {record(5, 11), record(5, 10), false},
-		{record(5, 10), record(5, 11), true},
-	} {
-		if why := overgranted(it.old, it.now); (why != "") != it.isOver {
-			t.Errorf("%+v to %+v: %q", it.old, it.now, why)
+		old, now, limit uint64
+		isOver          bool
+	}{{9, 11, 10, true}, {9, 10, 10, false}, {11, 10, 5, false}, {10, 11, 5, true}} {
+		if why := overgranted(usage(it.old, 0), usage(it.now, 0), usage(it.limit, 0)); (why != "") != it.isOver {
+			t.Errorf("%+v: %q", it, why)
 		}
 	}
 	keys := keys{"/p"}
@@ -295,10 +291,14 @@ func TestChecksFind(t *testing.T) {
 		kind    string
 		isNone  bool
 	}{
-		{map[string][]byte{"/p/t/a": {1}, "/p/g/s/a": {1}}, "grant", false}, {map[string][]byte{"/p/t/a": {1}}, "limit", false},
-		{map[string][]byte{"/p/t/a": {1}, "/p/g/s/a": nil}, "free", false}, {map[string][]byte{"/p/a/s": {1}}, "", false},
-		{map[string][]byte{"/p/g/s/a": {1}}, "", true}, {map[string][]byte{"/p/t/a": nil}, "", true},
-		{map[string][]byte{"/p/j/s": nil}, "", true}, {map[string][]byte{"/p/t/a": {1}, "/p/t/b": {1}, "/p/g/s/a": {1}}, "", true},
+		{map[string][]byte{"/p/t/a/0": {1}, "/p/g/s/a": {1}}, "grant", false},
+		{map[string][]byte{"/p/t/a": {1}, "/p/t/a/0": {1}, "/p/t/a/1": {1}, "/p/g/s/a": {1}}, "grant", false},
+		{map[string][]byte{"/p/t/a": {1}, "/p/t/a/0": {1}, "/p/t/a/1": nil}, "limit", false},
+		{map[string][]byte{"/p/t/a/0": {1}, "/p/g/s/a": nil}, "free", false}, {map[string][]byte{"/p/a/s": {1}}, "", false},
+		{map[string][]byte{"/p/j/s": {1}, "/p/g/s/a": {1}, "/p/g/s/b": {1}}, "register", false},
+		{map[string][]byte{"/p/g/s/a": {1}}, "", true}, {map[string][]byte{"/p/t/a": nil}, "", true}, {map[string][]byte{"/p/t/a": {1}}, "", true},
+		{map[string][]byte{"/p/j/s": nil}, "", true}, {map[string][]byte{"/p/t/a/0": {1}, "/p/t/b/0": {1}, "/p/g/s/a": {1}}, "", true},
+		{map[string][]byte{"/p/t/a/0": {1}, "/p/g/r/a": {1}, "/p/g/s/a": {1}}, "", true},
 	} {
 		revision := revision{1, it.changes}
 		if kind, err := revision.kind(keys); kind != it.kind || (err != nil) != it.isNone {

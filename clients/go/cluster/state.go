@@ -3,6 +3,7 @@ package cluster
 import (
 	"context"
 	"errors"
+	"sync"
 	"time"
 )
 
@@ -45,7 +46,7 @@ func (a *Agent) ask(ctx context.Context, request func(context.Context) error) er
 // Whether etcd has answered.
 func isAnswer(err error) bool {
 	var bad *BadRecord
-	return errors.Is(err, errLost) || errors.Is(err, errNotJoined) || errors.Is(err, ErrNoTenant) || errors.Is(err, Forgotten) ||
+	return errors.Is(err, errLost) || errors.Is(err, errNotJoined) || errors.Is(err, errGeneration) || errors.Is(err, ErrNoTenant) || errors.Is(err, Forgotten) ||
 		errors.As(err, &bad)
 }
 
@@ -62,6 +63,7 @@ func (a *Agent) heard() {
 
 // Finds the state that the agent is in.
 func (a *Agent) tell() {
+	defer a.told.renew()
 	a.mutex.Lock()
 	defer a.mutex.Unlock()
 	now := Status{State: Serving, Since: time.Now()}
@@ -69,12 +71,12 @@ func (a *Agent) tell() {
 	switch {
 	case a.end != nil:
 		now.State, now.Err = a.end.State, a.end
-	case !a.isJoined.Load():
-		err := &StateError{State: NotJoined, Store: a.store}
+	case !a.isJoined():
+		err := a.notJoined()
 		if a.away != nil {
 			err.Cause = a.away
 		}
-		now.State, now.Err = NotJoined, err
+		now.State, now.Err = err.State, err
 	case a.away != nil:
 		now.State, now.Err = EtcdAway, a.away
 	case !isSettled:
@@ -148,7 +150,8 @@ func (a *Agent) isAlive() bool {
 // How long after a failed request the next one is made.
 const pause = 200 * time.Millisecond
 
-// Has the store joined, at the beginning and where its record is found to be gone.
+// Has the store joined, at the beginning and where its record is found to be gone, and has it registered where etcd was
+// restored.
 func (a *Agent) keepJoined() {
 	for a.isAlive() {
 		select {
@@ -158,48 +161,201 @@ func (a *Agent) keepJoined() {
 		case <-a.ended:
 			return
 		}
-		for a.isAlive() {
-			isNew := false
-			err := a.ask(a.ctx, func(ctx context.Context) (err error) {
-				isNew, err = a.transactions.join(ctx, a.store, a.config.Node)
-				return err
-			})
-			if errors.Is(err, Forgotten) {
-				a.finish(&StateError{State: Forgotten})
-				return
+		for a.isAlive() && !a.joinOnce() {
+			select {
+			case <-a.join:
+			default:
+				a.sleep(pause)
 			}
-			if err == nil {
-				a.joined(isNew)
-				break
-			}
-			a.sleep(pause)
+		}
+	}
+}
+
+// Joins, or registers. Whether there is nothing more to do until it is woken.
+func (a *Agent) joinOnce() bool {
+	var of *generation
+	var isIn, isNew bool
+	err := a.ask(a.ctx, func(ctx context.Context) (err error) {
+		if of, err = a.transactions.current(ctx, a.seen.Load()); err != nil {
+			return err
+		}
+		if last := a.seen.Swap(of.Number); last != of.Number && last != 0 {
+			a.renewal.renew()
+		}
+		if of.Phase != isOpen {
+			isIn, err = a.transactions.isRegistered(ctx, of, a.store)
+			return err
+		}
+		var joined uint64
+		isNew, joined, err = a.transactions.join(ctx, of, a.store, a.config.Node)
+		isIn = joined == of.Number
+		return err
+	})
+	if err == nil && of.Phase == isClosed && !isIn {
+		a.closed()
+		err = a.register(of)
+	}
+	switch {
+	case errors.Is(err, Forgotten):
+		a.finish(&StateError{State: Forgotten})
+		return true
+	case err != nil:
+		return false
+	case of.Phase == isOpen && isIn:
+		a.joined(of, isNew)
+		return true
+	}
+	// The watch tells when it is open. Where that is late, it is found out by asking.
+	a.closed()
+	a.await(a.join, a.config.Report)
+	return false
+}
+
+// Nothing is granted until an operator has reopened the cluster.
+func (a *Agent) closed() {
+	a.isRestored.Store(true)
+	a.generation.Store(noGeneration)
+	a.tell()
+}
+
+// Waits for a signal, at most so long.
+func (a *Agent) await(signal <-chan struct{}, how time.Duration) {
+	timer := time.NewTimer(how)
+	defer timer.Stop()
+	select {
+	case <-signal:
+	case <-timer.C:
+	case <-a.ctx.Done():
+	case <-a.ended:
+	}
+}
+
+// Waits as long as one request until the store has joined. It doesn't wait where etcd is away, or was restored.
+func (a *Agent) awaitJoined(ctx context.Context) error {
+	patience := time.NewTimer(a.config.Timeout)
+	defer patience.Stop()
+	for {
+		told := a.told.now()
+		if a.isJoined() {
+			return nil
+		}
+		status := a.Status()
+		var why *StateError
+		if errors.As(status.Err, &why) && (why.State != NotJoined || why.Cause != nil) {
+			return status.Err
+		}
+		select {
+		case <-told:
+		case <-patience.C:
+			return a.notJoined()
+		case <-a.ended:
+			return a.end
+		case <-a.ctx.Done():
+			return ErrClosed
+		case <-ctx.Done():
+			return ctx.Err()
 		}
 	}
 }
 
 // A store that has joined only now has sent nothing before: where it has no limit of its own either, it has nothing to
 // settle.
-func (a *Agent) joined(isNew bool) {
+func (a *Agent) joined(of *generation, isNew bool) {
 	for _, t := range a.tenants {
 		if isNew {
 			t.isNew.Store(true)
 		}
 		t.wake()
 	}
-	a.isJoined.Store(true)
+	a.isRestored.Store(false)
+	a.generation.Store(of)
 	a.tell()
 }
 
-// What an answer of etcd has of others than the asker: that the store's record is gone isn't that it was forgotten.
-func (a *Agent) look(err error) error {
-	if !errors.Is(err, errNotJoined) {
+// Registers the store's own limits as its grants, while none of them is changed.
+func (a *Agent) register(of *generation) error {
+	names := sorted(a.tenants)
+	for _, name := range names {
+		t := a.tenants[name]
+		if err := t.take(a.ctx); err != nil {
+			return err
+		}
+		defer t.leave()
+	}
+	quotas, err := a.config.Store.Quotas(a.ctx)
+	if err != nil {
 		return err
 	}
-	a.isJoined.Store(false)
-	a.tell()
+	grants := map[string]grantRecord{}
+	for _, name := range names {
+		t := a.tenants[name]
+		t.number++
+		t.written, t.isDirty, t.known.isFresh = Usage{}, true, false
+		t.isNew.Store(false)
+		grants[name] = grantRecord{quotas[name].Limit, a.process, t.number, of.Number}
+		a.config.note(event{Kind: sending, Tenant: name, To: quotas[name].Limit, Number: t.number})
+	}
+	err = a.ask(a.ctx, func(ctx context.Context) error {
+		return a.transactions.register(ctx, of, a.store, a.config.Node, grants)
+	})
+	if err != nil {
+		return err
+	}
+	for name, it := range grants {
+		t := a.tenants[name]
+		t.isWriter = true
+		t.setGranted(it.Grant)
+		a.config.note(event{Kind: answered, Tenant: name, To: it.Grant, Number: it.Number})
+	}
+	return nil
+}
+
+// What an answer to a request of a generation has of others than the asker: that the store's record is gone isn't that it
+// was forgotten, and that the generation is another one isn't which.
+func (a *Agent) look(of *generation, err error) error {
+	if !errors.Is(err, errNotJoined) && !errors.Is(err, errGeneration) {
+		return err
+	}
+	if of != noGeneration && a.generation.CompareAndSwap(of, noGeneration) {
+		a.tell()
+		a.wakeJoin()
+	}
+	return a.notJoined()
+}
+
+func (a *Agent) wakeJoin() {
 	select {
 	case a.join <- struct{}{}:
 	default:
 	}
-	return &StateError{State: NotJoined, Store: a.store}
+}
+
+// Whether the store has joined, and the generation is open.
+func (a *Agent) isJoined() bool { return a.generation.Load() != noGeneration }
+
+func (a *Agent) notJoined() *StateError {
+	state := NotJoined
+	if a.isRestored.Load() {
+		state = Restored
+	}
+	return &StateError{State: state, Store: a.store}
+}
+
+// A signal for all that wait for it.
+type renewal struct {
+	mutex sync.Mutex
+	is    chan struct{}
+}
+
+func (r *renewal) renew() {
+	r.mutex.Lock()
+	defer r.mutex.Unlock()
+	close(r.is)
+	r.is = make(chan struct{})
+}
+
+func (r *renewal) now() <-chan struct{} {
+	r.mutex.Lock()
+	defer r.mutex.Unlock()
+	return r.is
 }

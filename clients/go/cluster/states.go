@@ -14,7 +14,7 @@ type State string
 
 func (s State) Error() string { return string(s) }
 
-// What a node does in each state. In the first four it serves, and goes from one to the other by itself.
+// What a node does in each state. In the first five it serves, and goes from one to the other by itself.
 const (
 	// Serving: all tenants are settled and etcd answers. Charges within the grant don't wait, and others ask etcd.
 	Serving State = "Serving"
@@ -28,6 +28,9 @@ const (
 	// NotJoined: etcd has neither a record that the store has joined nor the mark that it was forgotten, as at a first
 	// start while etcd is away. The node charges within its store's own limits, 0 for a new one, and tries to join.
 	NotJoined State = "NotJoined"
+	// Restored: etcd was restored from a backup. The node has registered its store's own limits, or tries to, and charges
+	// within them. A charge that needs more is refused, with this cause, until an operator has reopened the cluster.
+	Restored State = "Restored"
 
 	// Forgotten: an operator has said that the store's data are destroyed, and yet it is here. Others may have what it
 	// was granted. This and the next two are ends: each charge by the agent is refused, the store's own limits are lowered

@@ -275,7 +275,7 @@ func TestOperator(t *testing.T) {
 	equal(t, checked.Tenants[1].Tenant, "b/c")
 	w.check()
 	// Check finds what isn't so.
-	must(w.client.Put(ctx, w.operator.keys.tenant("a"), `{"l":[100,100],"s":[1,1]}`))(t)
+	must(w.client.Put(ctx, w.operator.keys.tenant("a"), `{"l":[100,100],"d":[0,0],"k":2}`))(t)
 	must(w.client.Put(ctx, w.operator.keys.grant("x", "d"), `{"g":[1,1],"p":"y","n":1}`))(t)
 	checked = must(w.operator.Check(ctx))(t)
 	equal(t, len(checked.Faults), 3)
@@ -359,10 +359,11 @@ func TestIdleAndRecall(t *testing.T) {
 }
 
 // With recall no charge is refused while as much is free on nodes that answer: four nodes charge until nothing is left, and
-// each amount that the limit leaves is had, wherever it lies.
+// each amount that the limit leaves is had, wherever it lies, also in other shards.
 func TestNoRefusalWithRoom(t *testing.T) {
 	w := newWorld(t)
 	w.limit("a", 300, 1000)
+	must(0, w.operator.SetShards(ctx, "a", 3))(t)
 	var nodes []*node
 	for i := 0; i < 4; i++ {
 		// A share of its own, so that how much a node takes doesn't depend on how many others it knows by then.

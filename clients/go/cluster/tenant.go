@@ -33,8 +33,9 @@ type tenant struct {
 	away   error
 	missed time.Time
 
-	// The last revision of the tenant's record that the watch has told.
-	seen atomic.Int64
+	// The last revisions of the tenant's record and of its shards that the watch has told.
+	seen       atomic.Int64
+	seenShards [MostShards]atomic.Int64
 	// When a charge was last made, in nanoseconds since 1970.
 	charged atomic.Int64
 	// Whether the store joined only now, so that nothing was granted before.
@@ -78,11 +79,8 @@ func (t *tenant) wake() {
 	}
 }
 
-// A change of the tenant's record, which the watch has told.
-func (t *tenant) change(revision int64) {
-	if revision > t.seen.Load() {
-		t.seen.Store(revision)
-	}
+// Has all that wait for room look again.
+func (t *tenant) wakeWaiting() {
 	t.mutex.Lock()
 	close(t.moved)
 	t.moved = make(chan struct{})
@@ -219,12 +217,19 @@ func (a *Agent) raiseOnce(ctx context.Context, t *tenant, need Usage, begin time
 			// Another charge has found out meanwhile.
 			return t.away
 		}
+		if err := a.awaitJoined(ctx); err != nil {
+			return err
+		}
 		isRead, err := a.know(ctx, t, quota.Limit)
 		if err != nil {
 			return err
 		}
 		isLatest = isLatest || isRead
 		to, err := a.next(t, quota, lacks)
+		if err == nil && t.isOld(t.known.plan(to, t.home(a))) {
+			t.known.isFresh = false
+			continue
+		}
 		if err == errShort && !isLatest {
 			// The watch may tell late of room. A refusal is by what etcd has answered since the charge began.
 			t.known.isFresh = false
@@ -264,11 +269,44 @@ func (a *Agent) next(t *tenant, quota pibroulez.Quota, lacks Usage) (Usage, erro
 	if share == 0 {
 		share = 2 * uint64(a.stores.Load())
 	}
-	to, isEnough := viewsOf(t.known.tenant, t.known.grant.Grant, quota.Limit).next(lacks, extra, share)
-	if !isEnough {
+	home, shards := t.home(a), uint64(len(t.known.shards))
+	all, blocks, inodes := viewsOf(&t.known, t.known.free(), quota.Limit).next(lacks, extra, share)
+	if !blocks || !inodes {
 		return Usage{}, errShort
 	}
-	return to, nil
+	// Where the store's own shard has enough, it takes from that alone.
+	if a.config.Share == 0 {
+		share = shareOfShard(share, shards)
+	}
+	own, blocks, inodes := viewsOf(&t.known, t.known.shards[home].free, quota.Limit).next(lacks, extra, share)
+	if blocks {
+		all.Blocks = own.Blocks
+	}
+	if inodes {
+		all.Inodes = own.Inodes
+	}
+	return all, nil
+}
+
+// The share of one of so many shards, which 1/shards of the stores take from first.
+func shareOfShard(share, shards uint64) uint64 {
+	if share = (share + shards - 1) / shards; share < 2 {
+		return 2
+	}
+	return share
+}
+
+// The store's own shard: they are shared out among the stores in order.
+func (t *tenant) home(a *Agent) int { return int(a.place.Load()) % len(t.known.shards) }
+
+// Whether the watch has told of later records than those that a plan is made of.
+func (t *tenant) isOld(plan plan) bool {
+	for at := range plan.free {
+		if t.seenShards[at].Load() > t.known.shards[at].revision {
+			return true
+		}
+	}
+	return t.seen.Load() > t.known.tenantRev
 }
 
 // Has etcd grant `to`, always by a write, and then raises the store's own limit to that. The turn is had.
@@ -306,9 +344,10 @@ func (a *Agent) setBound(ctx context.Context, t *tenant, to Usage) error {
 func (a *Agent) know(ctx context.Context, t *tenant, bound Usage) (isRead bool, err error) {
 	if !t.known.isFresh || t.seen.Load() > t.known.tenantRev {
 		a.count(func(m *Metrics) { m.Reads++ })
-		err := a.ask(ctx, func(ctx context.Context) error { return a.read(ctx, a.store, t.name, &t.known) })
+		of := a.generation.Load()
+		err := a.ask(ctx, func(ctx context.Context) error { return a.read(ctx, of, a.store, t.name, &t.known) })
 		if err != nil {
-			return true, a.look(err)
+			return true, a.look(of, err)
 		}
 		isRead = true
 	}
@@ -321,7 +360,7 @@ func (a *Agent) compare(t *tenant, bound Usage) error {
 	if t.isWriter && k.grantRev != 0 && k.grant.By != a.process {
 		return a.finish(&StateError{State: Copied, Tenant: t.name})
 	}
-	if !viewsOf(k.tenant, k.grant.Grant, bound).isSound() {
+	if !viewsOf(k, Usage{}, bound).isSound() {
 		return a.finish(&StateError{State: LimitAboveGrant, Tenant: t.name, Limit: bound, Grant: k.grant.Grant})
 	}
 	return nil
@@ -329,15 +368,16 @@ func (a *Agent) compare(t *tenant, bound Usage) error {
 
 // Writes the grant, of a store with this limit of its own. Where it is errLost, what is known is as it is now.
 func (a *Agent) write(ctx context.Context, t *tenant, to, bound Usage) error {
-	if !viewsOf(t.known.tenant, t.known.grant.Grant, bound).mayGrant(to) {
+	if !viewsOf(&t.known, t.known.free(), bound).mayGrant(to) {
 		return errNotGranted
 	}
 	t.number++
 	t.written = Usage{}
-	record := grantRecord{to, a.process, t.number}
+	of, home := a.generation.Load(), t.home(a)
+	record := grantRecord{to, a.process, t.number, of.Number}
 	a.config.note(event{Kind: sending, Tenant: t.name, To: to, Number: t.number})
 	err := a.ask(ctx, func(ctx context.Context) error {
-		return a.grant(ctx, a.store, t.name, &t.known, record)
+		return a.grant(ctx, of, a.store, t.name, home, &t.known, record)
 	})
 	switch {
 	case err == nil:
@@ -353,7 +393,7 @@ func (a *Agent) write(ctx context.Context, t *tenant, to, bound Usage) error {
 		t.isDirty = true
 		a.count(func(m *Metrics) { m.Unanswered++ })
 	}
-	return a.look(err)
+	return a.look(of, err)
 }
 
 // Gives back what is neither charged, nor reserved, nor to be kept: the store's own limit first. The turn is had.
@@ -404,7 +444,7 @@ func (a *Agent) settle(ctx context.Context, t *tenant) error {
 			a.settledOne(t)
 			return nil
 		}
-		err = a.write(ctx, t, viewsOf(t.known.tenant, t.known.grant.Grant, quota.Limit).settled(), quota.Limit)
+		err = a.write(ctx, t, viewsOf(&t.known, Usage{}, quota.Limit).settled(), quota.Limit)
 		if err == nil {
 			a.count(func(m *Metrics) { m.Settles++ })
 			a.settledOne(t)
@@ -455,7 +495,7 @@ func (a *Agent) keep(t *tenant) {
 		case <-a.ended:
 			return
 		}
-		if !a.isJoined.Load() || t.take(a.ctx) != nil {
+		if !a.isJoined() || t.take(a.ctx) != nil {
 			continue
 		}
 		rested = a.tend(t, rested)

@@ -4,24 +4,21 @@ import (
 	"context"
 	"encoding/json"
 	"errors"
+	"fmt"
+	"sync/atomic"
 
 	"go.etcd.io/etcd/clientv3"
+	"go.etcd.io/etcd/mvcc/mvccpb"
 )
 
-// transactions are the four that write what grants depend on, in etcd: join, grant, limit and forget. Nothing else does.
+// transactions are those that write what grants depend on, in etcd: join, grant, limit and forget; and where etcd was
+// restored, next, register and sum, of generations.go. Nothing else does.
 type transactions struct {
 	kv   clientv3.KV
 	keys keys
-}
-
-// What is known of a tenant and of a store's grant, as of one revision. A revision of 0 is of a key that isn't there.
-type known struct {
-	tenant    tenantRecord
-	tenantRev int64
-	grant     grantRecord
-	grantRev  int64
-	// Whether nothing is known that is later.
-	isFresh bool
+	// The greatest revision that etcd has answered, and whether it has answered an earlier one to what was asked later.
+	floor  atomic.Int64
+	isBack atomic.Bool
 }
 
 // Why a transaction wasn't carried out.
@@ -30,6 +27,10 @@ var (
 	errLost = errors.New("a key was changed meanwhile")
 	// There is no record that the store has joined.
 	errNotJoined = errors.New("there is no record that the store has joined")
+	// The generation is another one, or it isn't open.
+	errGeneration = errors.New("the generation of grants is another one")
+	// The shards aren't those that the tenant's record says.
+	errShards = errors.New("the shards aren't those of the tenant's record")
 )
 
 func isThere(key string) clientv3.Cmp { return clientv3.Compare(clientv3.CreateRevision(key), ">", 0) }
@@ -51,105 +52,198 @@ func take(r *clientv3.GetResponse, record any) (int64, error) {
 	if len(r.Kvs) == 0 {
 		return 0, nil
 	}
-	it := r.Kvs[0]
+	return takeOne(r.Kvs[0], record)
+}
+
+func takeOne(it *mvccpb.KeyValue, record any) (int64, error) {
 	if err := json.Unmarshal(it.Value, record); err != nil {
 		return 0, &BadRecord{string(it.Key), err}
 	}
 	return it.ModRevision, nil
 }
 
-func (k *known) take(tenant, grant *clientv3.GetResponse) (err error) {
-	var now known
-	if now.tenantRev, err = take(tenant, &now.tenant); err != nil {
-		return err
-	}
-	if now.grantRev, err = take(grant, &now.grant); err != nil {
-		return err
-	}
-	if now.tenantRev == 0 {
-		return ErrNoTenant
-	}
-	now.isFresh = true
-	*k = now
-	return nil
-}
-
-// Reads a tenant's record and a store's grant, as of one revision that is at least each one answered before.
-func (t *transactions) read(ctx context.Context, store, tenant string, k *known) error {
-	k.isFresh = false
-	r, err := t.kv.Txn(ctx).If(isThere(t.keys.joined(store))).
-		Then(clientv3.OpGet(t.keys.tenant(tenant)), clientv3.OpGet(t.keys.grant(store, tenant))).Commit()
+// Makes a transaction in a generation, or in whatever one where that is nil. Its answer is errGeneration where etcd was
+// restored since the generation began.
+func (t *transactions) commit(ctx context.Context, of *generation, ifs []clientv3.Cmp, thens, elses []clientv3.Op) (*clientv3.TxnResponse, error) {
+	floor := t.floor.Load()
+	r, err := t.kv.Txn(ctx).If(ifs...).Then(thens...).Else(elses...).Commit()
 	if err != nil {
-		return err
+		return nil, err
 	}
-	if !r.Succeeded {
-		return errNotJoined
+	t.see(r.Header.Revision, floor)
+	if of != nil && (t.isBack.Load() || clusterOf(r) != of.Cluster) {
+		return nil, errGeneration
 	}
-	return k.take(answer(r, 0), answer(r, 1))
+	return r, nil
 }
 
-// join writes that a store has joined, where it hasn't and was not forgotten. Whether it was written now.
-func (t *transactions) join(ctx context.Context, store, node string) (bool, error) {
-	joined, forgotten := t.keys.joined(store), t.keys.forgotten(store)
-	r, err := t.kv.Txn(ctx).If(isGone(joined), isGone(forgotten)).Then(put(joined, joinRecord{node})).
-		Else(clientv3.OpGet(joined, clientv3.WithCountOnly())).Commit()
-	if err != nil || r.Succeeded {
-		return err == nil, err
+// Sees the revision of an answer to what was asked when etcd was at `floor` at least.
+func (t *transactions) see(revision, floor int64) {
+	if revision < floor {
+		t.isBack.Store(true)
+		t.floor.Store(revision)
+		return
 	}
-	if answer(r, 0).Count == 0 {
-		return false, Forgotten
+	for last := t.floor.Load(); last < revision && !t.floor.CompareAndSwap(last, revision); {
+		last = t.floor.Load()
 	}
-	return false, nil
 }
 
-// grant sets a store's grant, and the sum with it, which may be granted by what is known. Where it is errLost nothing was
-// written, and what is known is as it is now. By any other error of etcd it may have been written, or may still be.
-func (t *transactions) grant(ctx context.Context, store, tenant string, k *known, next grantRecord) error {
-	sum := viewsOf(k.tenant, k.grant.Grant, Usage{}).sumAfter(next.Grant)
-	record := tenantRecord{k.tenant.Limit, sum}
-	tenantKey, grantKey, joined := t.keys.tenant(tenant), t.keys.grant(store, tenant), t.keys.joined(store)
+// The id of etcd's cluster.
+func clusterOf(r *clientv3.TxnResponse) string { return fmt.Sprintf("%016x", r.Header.ClusterId) }
+
+// Reads a tenant's record and pool and a store's grant, as of one revision that is at least each one answered before.
+func (t *transactions) read(ctx context.Context, of *generation, store, tenant string, k *known) error {
 	k.isFresh = false
-	r, err := t.kv.Txn(ctx).If(isOf(tenantKey, k.tenantRev), isOf(grantKey, k.grantRev), isThere(joined)).
-		Then(put(tenantKey, record), put(grantKey, next)).
-		Else(clientv3.OpGet(tenantKey), clientv3.OpGet(grantKey), clientv3.OpGet(joined, clientv3.WithCountOnly())).Commit()
+	joined := t.keys.joined(store)
+	r, err := t.commit(ctx, of, []clientv3.Cmp{isThere(joined), of.isCurrent(t.keys)}, t.keys.reads(store, tenant),
+		[]clientv3.Op{clientv3.OpGet(joined, clientv3.WithCountOnly())})
 	switch {
 	case err != nil:
 		return err
 	case r.Succeeded:
-		*k = known{record, r.Header.Revision, next, r.Header.Revision, true}
-		return nil
-	case answer(r, 2).Count == 0:
+		return k.take(r, 0, t.keys)
+	case answer(r, 0).Count == 0:
 		return errNotJoined
 	}
-	if err := k.take(answer(r, 0), answer(r, 1)); err != nil {
+	return errGeneration
+}
+
+// join writes that a store has joined in an open generation, where it hasn't and was not forgotten. Whether it was written
+// now, and else in which generation.
+func (t *transactions) join(ctx context.Context, of *generation, store, node string) (isNew bool, generation uint64, err error) {
+	joined, forgotten := t.keys.joined(store), t.keys.forgotten(store)
+	record := joinRecord{node, of.Number}
+	r, err := t.commit(ctx, of, []clientv3.Cmp{isGone(joined), isGone(forgotten), of.isCurrent(t.keys)}, []clientv3.Op{put(joined, record)},
+		[]clientv3.Op{clientv3.OpGet(joined), clientv3.OpGet(forgotten, clientv3.WithCountOnly())})
+	switch {
+	case err != nil:
+		return false, 0, err
+	case r.Succeeded:
+		return true, of.Number, nil
+	case answer(r, 1).Count > 0:
+		return false, 0, Forgotten
+	}
+	revision, err := take(answer(r, 0), &record)
+	if err == nil && revision == 0 {
+		err = errGeneration
+	}
+	return false, record.Generation, err
+}
+
+// grant sets a store's grant, and what is free or owed with it, which may be granted by what is known. Where it is errLost
+// nothing was written, and what is known is as it is now. By any other error of etcd it may have been written, or may still
+// be.
+func (t *transactions) grant(ctx context.Context, of *generation, store, tenant string, home int, k *known, next grantRecord) error {
+	plan := k.plan(next.Grant, home)
+	grantKey, joined := t.keys.grant(store, tenant), t.keys.joined(store)
+	ifs := []clientv3.Cmp{of.isCurrent(t.keys), isOf(t.keys.tenant(tenant), k.tenantRev), isOf(grantKey, k.grantRev), isThere(joined)}
+	thens := []clientv3.Op{put(grantKey, next)}
+	for at, free := range plan.free {
+		key := t.keys.shard(tenant, at)
+		ifs, thens = append(ifs, isOf(key, k.shards[at].revision)), append(thens, put(key, shardRecord{free}))
+	}
+	record := k.tenant
+	if record.Debt = plan.debt; plan.isPaid {
+		thens = append(thens, put(t.keys.tenant(tenant), record))
+	}
+	k.isFresh = false
+	r, err := t.commit(ctx, of, ifs, thens, append(t.keys.reads(store, tenant),
+		clientv3.OpGet(joined, clientv3.WithCountOnly()), clientv3.OpGet(t.keys.generation())))
+	switch {
+	case err != nil:
+		return err
+	case r.Succeeded:
+		k.wrote(plan, record, next, r.Header.Revision)
+		return nil
+	case answer(r, 3).Count == 0:
+		return errNotJoined
+	case !of.isIn(answer(r, 4)):
+		return errGeneration
+	}
+	if err := k.take(r, 0, t.keys); err != nil {
 		return err
 	}
 	return errLost
 }
 
-// limit sets a tenant's limit. What the record was before.
-func (t *transactions) limit(ctx context.Context, tenant string, limit Usage) (tenantRecord, error) {
-	key := t.keys.tenant(tenant)
+// What is known once a plan was carried out.
+func (k *known) wrote(plan plan, record tenantRecord, grant grantRecord, revision int64) {
+	for at, free := range plan.free {
+		k.shards[at] = knownShard{free, revision}
+	}
+	if plan.isPaid {
+		k.tenant, k.tenantRev = record, revision
+	}
+	k.grant, k.grantRev, k.isFresh = grant, revision, true
+}
+
+// limit gives a tenant another record, by what it is now, and divides anew what is free. A change that isn't to be is its
+// error. A tenant that isn't there has a limit of 0, and no shards.
+func (t *transactions) limit(ctx context.Context, tenant string, change func(*tenantRecord) error) error {
+	of, err := t.open(ctx)
+	if err != nil {
+		return err
+	}
+	key, reads := t.keys.tenant(tenant), t.keys.reads("", tenant)[:2]
 	for {
-		r, err := t.kv.Get(ctx, key)
+		r, err := t.commit(ctx, of, nil, reads, nil)
 		if err != nil {
-			return tenantRecord{}, err
+			return restored(err)
 		}
 		var old tenantRecord
-		revision, err := take(r, &old)
-		if err != nil {
-			return tenantRecord{}, err
+		var shards []knownShard
+		revision, err := take(answer(r, 0), &old)
+		if err == nil && revision != 0 {
+			shards, err = takeShards(answer(r, 1), t.keys, old.Shards)
 		}
-		w, err := t.kv.Txn(ctx).If(isOf(key, revision)).Then(put(key, tenantRecord{limit, old.Granted})).Commit()
+		if err != nil {
+			return err
+		}
+		k := known{tenant: old, tenantRev: revision, shards: shards}
+		next := old
+		if err := change(&next); err != nil {
+			return err
+		}
+		ifs, thens := t.divide(tenant, &k, next)
+		w, err := t.commit(ctx, of, append(ifs, isOf(key, revision), of.isCurrent(t.keys)), thens, []clientv3.Op{clientv3.OpGet(t.keys.generation())})
 		if err != nil || w.Succeeded {
-			return old, err
+			return restored(err)
+		}
+		if !of.isIn(answer(w, 0)) {
+			return ErrRestored
 		}
 	}
 }
 
+// What writes a tenant's record and each of its shards, as the next record has them.
+func (t *transactions) divide(tenant string, k *known, next tenantRecord) (ifs []clientv3.Cmp, thens []clientv3.Op) {
+	record, parts := dividedOf(next.Limit, k.granted(), next.Shards)
+	thens = []clientv3.Op{put(t.keys.tenant(tenant), record)}
+	for i := 0; i < len(k.shards) || i < len(parts); i++ {
+		key, revision := t.keys.shard(tenant, i), int64(0)
+		if i < len(k.shards) {
+			revision = k.shards[i].revision
+		}
+		if ifs = append(ifs, isOf(key, revision)); i < len(parts) {
+			thens = append(thens, put(key, parts[i]))
+		} else {
+			thens = append(thens, clientv3.OpDelete(key))
+		}
+	}
+	return ifs, thens
+}
+
 // forget takes a store out: first its record of having joined, so that none of its transactions is carried out from then
-// on, and then its grants, each with the sum. It may be called again where it has ended with an error. What was freed.
+// on, and then its grants, each with what is free. It may be called again where it has ended with an error. What was freed.
 func (t *transactions) forget(ctx context.Context, store string) (map[string]Usage, error) {
+	of, err := t.current(ctx, 0)
+	if err != nil {
+		return nil, err
+	}
+	if of.Phase == isSumming {
+		return nil, ErrRestored
+	}
 	if err := t.mark(ctx, store); err != nil {
 		return nil, err
 	}
@@ -163,8 +257,8 @@ func (t *transactions) forget(ctx context.Context, store string) (map[string]Usa
 		if len(parts) != 2 {
 			continue
 		}
-		if freed[parts[1]], err = t.free(ctx, store, parts[1]); err != nil {
-			return freed, err
+		if freed[parts[1]], err = t.free(ctx, of, store, parts[1]); err != nil {
+			return freed, restored(err)
 		}
 	}
 	return freed, nil
@@ -173,9 +267,9 @@ func (t *transactions) forget(ctx context.Context, store string) (map[string]Usa
 // Marks a store as forgotten, where it has joined and its agent doesn't answer, unless it is marked already.
 func (t *transactions) mark(ctx context.Context, store string) error {
 	joined, forgotten, present := t.keys.joined(store), t.keys.forgotten(store), t.keys.present(store)
-	r, err := t.kv.Txn(ctx).If(isThere(joined), isGone(present)).
-		Then(clientv3.OpDelete(joined), clientv3.OpPut(forgotten, "{}")).
-		Else(clientv3.OpGet(joined, clientv3.WithCountOnly()), clientv3.OpGet(forgotten, clientv3.WithCountOnly())).Commit()
+	r, err := t.commit(ctx, nil, []clientv3.Cmp{isThere(joined), isGone(present)},
+		[]clientv3.Op{clientv3.OpDelete(joined), clientv3.OpPut(forgotten, "{}")},
+		[]clientv3.Op{clientv3.OpGet(joined, clientv3.WithCountOnly()), clientv3.OpGet(forgotten, clientv3.WithCountOnly())})
 	switch {
 	case err != nil || r.Succeeded:
 		return err
@@ -187,27 +281,48 @@ func (t *transactions) mark(ctx context.Context, store string) error {
 	return nil
 }
 
-// Takes the grant of a store that was marked as forgotten.
-func (t *transactions) free(ctx context.Context, store, tenant string) (Usage, error) {
-	tenantKey, grantKey := t.keys.tenant(tenant), t.keys.grant(store, tenant)
+// Takes the grant of a store that was marked as forgotten. In a closed generation it counts for nothing.
+func (t *transactions) free(ctx context.Context, of *generation, store, tenant string) (Usage, error) {
+	grantKey := t.keys.grant(store, tenant)
 	for {
-		r, err := t.kv.Txn(ctx).Then(clientv3.OpGet(tenantKey), clientv3.OpGet(grantKey)).Commit()
+		r, err := t.commit(ctx, of, nil, t.keys.reads(store, tenant), nil)
 		if err != nil {
 			return Usage{}, err
 		}
 		var k known
-		if err := k.take(answer(r, 0), answer(r, 1)); err != nil {
+		if err := k.take(r, 0, t.keys); err != nil && !(of.Phase == isClosed && errors.Is(err, ErrNoTenant)) {
 			return Usage{}, err
 		}
-		if k.grantRev == 0 {
+		if k.isFresh && k.grantRev == 0 {
 			return Usage{}, nil
 		}
-		sum := viewsOf(k.tenant, k.grant.Grant, Usage{}).sumAfter(Usage{})
-		w, err := t.kv.Txn(ctx).
-			If(isOf(tenantKey, k.tenantRev), isOf(grantKey, k.grantRev), isThere(t.keys.forgotten(store)), isGone(t.keys.joined(store))).
-			Then(put(tenantKey, tenantRecord{k.tenant.Limit, sum}), clientv3.OpDelete(grantKey)).Commit()
+		ifs := []clientv3.Cmp{isThere(t.keys.forgotten(store)), isGone(t.keys.joined(store)), of.isCurrent(t.keys)}
+		thens := []clientv3.Op{clientv3.OpDelete(grantKey)}
+		if of.Phase == isOpen {
+			ifs, thens = t.freed(tenant, &k, append(ifs, isOf(grantKey, k.grantRev)), thens)
+		}
+		w, err := t.commit(ctx, of, ifs, thens, []clientv3.Op{clientv3.OpGet(t.keys.generation())})
 		if err != nil || w.Succeeded {
 			return k.grant.Grant, err
 		}
+		if !of.isIn(answer(w, 0)) {
+			return Usage{}, errGeneration
+		}
 	}
+}
+
+// What writes a tenant's pool with a grant given back.
+func (t *transactions) freed(tenant string, k *known, ifs []clientv3.Cmp, thens []clientv3.Op) ([]clientv3.Cmp, []clientv3.Op) {
+	plan := k.plan(Usage{}, int(k.grantRev)%len(k.shards))
+	ifs = append(ifs, isOf(t.keys.tenant(tenant), k.tenantRev))
+	for at, free := range plan.free {
+		key := t.keys.shard(tenant, at)
+		ifs, thens = append(ifs, isOf(key, k.shards[at].revision)), append(thens, put(key, shardRecord{free}))
+	}
+	if plan.isPaid {
+		record := k.tenant
+		record.Debt = plan.debt
+		thens = append(thens, put(t.keys.tenant(tenant), record))
+	}
+	return ifs, thens
 }

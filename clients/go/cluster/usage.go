@@ -35,10 +35,12 @@ func covers(a, b Usage) bool { return a.Blocks >= b.Blocks && a.Inodes >= b.Inod
 // A view of each quantity.
 type views struct{ blocks, inodes rules.View }
 
-func viewsOf(tenant tenantRecord, grant, bound Usage) views {
+// What a store knows, where so much is free in the shards that it looks at.
+func viewsOf(k *known, free, bound Usage) views {
+	debt, grant := k.tenant.Debt, k.grant.Grant
 	return views{
-		rules.View{Limit: tenant.Limit.Blocks, Granted: tenant.Granted.Blocks, Grant: grant.Blocks, Bound: bound.Blocks},
-		rules.View{Limit: tenant.Limit.Inodes, Granted: tenant.Granted.Inodes, Grant: grant.Inodes, Bound: bound.Inodes},
+		rules.View{Free: free.Blocks, Debt: debt.Blocks, Grant: grant.Blocks, Bound: bound.Blocks},
+		rules.View{Free: free.Inodes, Debt: debt.Inodes, Grant: grant.Inodes, Bound: bound.Inodes},
 	}
 }
 
@@ -48,19 +50,15 @@ func (v views) settled() Usage {
 	return Usage{Blocks: v.blocks.Settled(), Inodes: v.inodes.Settled()}
 }
 
-func (v views) sumAfter(to Usage) Usage {
-	return Usage{Blocks: v.blocks.SumAfter(to.Blocks), Inodes: v.inodes.SumAfter(to.Inodes)}
-}
-
 func (v views) mayGrant(to Usage) bool {
 	return v.blocks.MayGrant(to.Blocks) && v.inodes.MayGrant(to.Inodes)
 }
 
-// The next grant of a store that lacks an amount. In a quantity of which it lacks nothing it takes nothing.
-func (v views) next(lacks, extra Usage, share uint64) (Usage, bool) {
-	blocks, areBlocks := v.blocks.Next(lacks.Blocks, ifAny(lacks.Blocks, extra.Blocks), share)
-	inodes, areInodes := v.inodes.Next(lacks.Inodes, ifAny(lacks.Inodes, extra.Inodes), share)
-	return Usage{Blocks: blocks, Inodes: inodes}, areBlocks && areInodes
+// The next grant of a store that lacks an amount, by each quantity. In one of which it lacks nothing it takes nothing.
+func (v views) next(lacks, extra Usage, share uint64) (to Usage, blocks, inodes bool) {
+	to.Blocks, blocks = v.blocks.Next(lacks.Blocks, ifAny(lacks.Blocks, extra.Blocks), share)
+	to.Inodes, inodes = v.inodes.Next(lacks.Inodes, ifAny(lacks.Inodes, extra.Inodes), share)
+	return to, blocks, inodes
 }
 
 func ifAny(lacks, extra uint64) uint64 {

@@ -2,8 +2,14 @@
 // are those of package rules, which an agent takes its steps by. Search goes through all states of a few stores and small
 // limits, and Walk takes what was seen of a run as steps of the machine.
 //
-// A transaction compares the revisions of the tenant's key and of the grant's, and writes both. So each write voids all
-// transactions under way, and a transaction of who has read older revisions can't be applied: it is as one that was lost.
+// A transaction compares the revisions of the tenant's record, of the shards of its pool that it takes from or gives back
+// to, and of the grant, and writes the grant and those shards, and the record where it pays a debt. So each write voids all
+// transactions under way that have one of these in common with it, and a transaction of who has read older revisions can't
+// be applied: it is as one that was lost.
+//
+// Where etcd is restored from a backup, its records are those of some time before. The tenant is closed then: nothing is
+// raised until each store has registered its own limit as its grant, and the sum is made anew. The old grants don't count
+// for anything meanwhile, so a restored state has none.
 package model
 
 import (
@@ -27,13 +33,31 @@ const (
 	Settling
 )
 
-// MostSent is how many transactions of a store may still be applied at one time, at the most.
-const MostSent = 4
+// MostSent is how many transactions of a store may still be applied at one time, at the most, and MostShards how many
+// shards a pool has.
+const (
+	MostSent   = 4
+	MostShards = 2
+)
+
+// Shards are amounts in the shards of a pool.
+type Shards [MostShards]uint64
+
+func (a Shards) sum() (sum uint64) {
+	for _, it := range a {
+		sum += it
+	}
+	return sum
+}
 
 // A Transaction may still be applied.
 type Transaction struct {
 	Grant uint64
-	// Sum is the sum of grants that it writes, where the model is Wrong by KeyAlone.
+	// Takes is what it takes from each shard, and Back the shard that gets what it gives back.
+	Takes Shards
+	Back  uint8
+	// Sum is what a wrong variant keeps of it: of KeyAlone the sum of grants that it writes, of RecordAlone the debt, and
+	// what it pays of that, and of GenerationAlone that it is from before a restore.
 	Sum uint64
 	// IsAwaited says that its sender waits for the answer, and IsOfLost that it is of the store whose disk is lost.
 	IsAwaited, IsOfLost bool
@@ -54,15 +78,47 @@ type Node struct {
 	Phase Phase
 	// IsUp: agent and store run. IsKnown: what the agent knows of etcd is as etcd is. IsReplied: an answer is on its way.
 	IsUp, IsKnown, IsReplied bool
+	// IsRegistered: in a closed tenant the grant is the store's own limit, or above it.
+	IsRegistered bool
 }
 
 // NewNode is a store that has joined.
 func NewNode() Node { return Node{IsUp: true} }
 
-// A State is a tenant's limit, the sum of its grants, and its stores.
+// A State is a tenant's limit, its pool, and its stores.
 type State struct {
-	Limit, Sum uint64
-	Nodes      []Node
+	Limit uint64
+	// Free is what no store is granted, in each of the first Shards, and Debt what is granted above the limit.
+	Free   Shards
+	Debt   uint64
+	Shards uint8
+	// IsClosed: etcd was restored. Before is what was granted then.
+	IsClosed bool
+	Before   uint64
+	Nodes    []Node
+}
+
+// Granted is the sum of grants, as the tenant's record and its pool have it. Of a closed tenant it is what that was when
+// etcd was restored.
+func (s *State) Granted() uint64 {
+	if s.IsClosed {
+		return s.Before
+	}
+	return s.Limit + s.Debt - s.Free.sum()
+}
+
+func (s *State) setGranted(to uint64, free Shards) {
+	_, s.Debt = rules.Limited(s.Limit, to)
+	s.Free = free
+}
+
+// Divided is what is free where so much is granted of a limit, divided among the shards.
+func (s *State) Divided(limit, granted uint64) (free Shards) {
+	left, _ := rules.Limited(limit, granted)
+	for i := range free[:s.Shards] {
+		free[i] = rules.Part(left, uint64(s.Shards), uint64(i))
+	}
+	return free
 }
 
 // A Kind is what a step does.
@@ -82,6 +138,10 @@ const (
 	Forget
 	// SetLimit: an operator gives the tenant another limit.
 	SetLimit
+	// Restore: etcd is restored from a backup, in which the tenant has some limit.
+	Restore
+	// Reopen: all stores have registered, and the sum is made anew.
+	Reopen
 	// Lose: a transaction is lost.
 	Lose
 	// Apply: etcd carries a transaction out.
@@ -94,7 +154,8 @@ const (
 	Read Kind = iota + Apply + 1
 	// Lower: the store's own limit is lowered.
 	Lower
-	// Raise and Settle: a transaction is sent for a grant above the store's own limit, or for one that is that limit.
+	// Raise and Settle: a transaction is sent for a grant above the store's own limit, or for one that is that limit. In a
+	// closed tenant a settle registers the store.
 	Raise
 	Settle
 	// GiveUp: the answer doesn't come.
@@ -109,7 +170,7 @@ const (
 )
 
 var kindNames = [...]string{
-	"charge", "remove", "crash", "restart", "lose disk", "forget", "set limit", "lose", "apply",
+	"charge", "remove", "crash", "restart", "lose disk", "forget", "set limit", "restore", "reopen", "lose", "apply",
 	"read", "lower", "raise", "settle", "give up", "answer", "set", "forget a running store", "an old log",
 }
 
@@ -122,6 +183,10 @@ type Step struct {
 	Node, Index int
 	// To is the new value, and of Charge and Remove how much.
 	To uint64
+	// Shards is what a Raise takes from each, and what is free in each after SetLimit and Reopen. Back is where a Raise, a
+	// Settle or a Forget gives back.
+	Shards Shards
+	Back   uint8
 }
 
 func (s Step) String() string { return fmt.Sprintf("%s %d at node %d", s.Kind, s.To, s.Node) }
@@ -145,6 +210,16 @@ const (
 	LiveForgotten
 	// LogGoesBack lets a log go back in time.
 	LogGoesBack
+	// DebtUnpaid has what is given back free at once, and raises while there is a debt.
+	DebtUnpaid
+	// RecordAlone pays a debt without comparing the tenant's record.
+	RecordAlone
+	// RestoreUnseen goes on over an etcd that was restored from a backup.
+	RestoreUnseen
+	// ReopenedEarly makes the sum anew before all stores have registered.
+	ReopenedEarly
+	// GenerationAlone lets a transaction from before a restore be applied.
+	GenerationAlone
 	// Held waits for others with what it doesn't use in hand: the limit isn't passed, but stores wait for each other.
 	Held
 )
@@ -154,13 +229,19 @@ type Model struct {
 	Wrong Wrong
 	// MostSent is how many transactions of a store may still be applied at one time; one more is lost.
 	MostSent uint8
-	// Rewrites lets a store settle where its grant is its own limit. In a run of two quantities the other one's steps
-	// are that.
+	// Rewrites lets a store settle where its grant is its own limit, and an operator set the limit that there is. In a run
+	// of two quantities the other one's steps are that.
 	Rewrites bool
+	// Restores lets etcd be restored.
+	Restores bool
 }
 
-func (n *Node) view(s *State) rules.View {
-	return rules.View{Limit: s.Limit, Granted: s.Sum, Grant: n.Grant, Bound: n.Bound}
+func (m *Model) view(s *State, n *Node) rules.View {
+	view := rules.View{Free: s.Free.sum(), Debt: s.Debt, Grant: n.Grant, Bound: n.Bound}
+	if m.Wrong == DebtUnpaid {
+		view.Debt = 0
+	}
+	return view
 }
 
 // What etcd has answered to be written since the store last lowered its own limit.
@@ -176,8 +257,14 @@ func (m *Model) written(n *Node) uint64 {
 
 // May says whether a step is one of the machine's in a state.
 func (m *Model) May(s *State, step Step) bool {
-	if step.Kind == SetLimit {
-		return step.To != s.Limit
+	switch step.Kind {
+	case SetLimit:
+		free, _ := rules.Limited(step.To, s.Granted())
+		return (step.To != s.Limit || m.Rewrites) && (s.IsClosed || step.Shards.sum() == free)
+	case Restore:
+		return m.Restores
+	case Reopen:
+		return s.IsClosed && m.mayReopen(s, step.Shards)
 	}
 	n := &s.Nodes[step.Node]
 	isFree := n.IsUp && n.Phase == Idle
@@ -193,7 +280,7 @@ func (m *Model) May(s *State, step Step) bool {
 	case LoseDisk:
 		return !n.IsUp && n.Lost == 0
 	case Forget:
-		return n.Lost > 0
+		return n.Lost > 0 && step.Back < s.Shards
 	case Lose, Apply:
 		return step.Index < int(n.Sents)
 	case Read:
@@ -201,9 +288,9 @@ func (m *Model) May(s *State, step Step) bool {
 	case Lower:
 		return isFree && m.Wrong != EtcdFirst && n.Charged <= step.To && step.To < n.Bound
 	case Raise:
-		return isFree && n.IsKnown && step.To > n.Bound && n.view(s).MayGrant(step.To)
+		return isFree && n.IsKnown && !s.IsClosed && step.To > n.Bound && m.view(s, n).MayGrant(step.To) && areTakes(s, n, step)
 	case Settle:
-		return isFree && n.IsKnown && m.maySettle(s, n, step.To)
+		return isFree && n.IsKnown && step.Back < s.Shards && m.maySettle(s, n, step.To)
 	case GiveUp:
 		return n.IsUp && (n.Phase == Raising || n.Phase == Settling)
 	case Answer:
@@ -219,19 +306,63 @@ func (m *Model) May(s *State, step Step) bool {
 	return false
 }
 
+// Whether a raise takes what it needs, from shards that have it.
+func areTakes(s *State, n *Node, step Step) bool {
+	for i, it := range step.Shards {
+		if it > s.Free[i] {
+			return false
+		}
+	}
+	if step.To <= n.Grant {
+		return step.Shards == Shards{} && step.Back < s.Shards
+	}
+	return step.Shards.sum() == step.To-n.Grant && step.Back == 0
+}
+
+func (s *State) grants() (sum uint64) {
+	for i := range s.Nodes {
+		sum += s.Nodes[i].Grant
+	}
+	return sum
+}
+
+func (m *Model) mayReopen(s *State, free Shards) bool {
+	for i := range s.Nodes {
+		n := &s.Nodes[i]
+		if n.Lost > 0 || !n.IsRegistered && m.Wrong != ReopenedEarly {
+			return false
+		}
+	}
+	left, _ := rules.Limited(s.Limit, s.grants())
+	return free.sum() == left
+}
+
 func (m *Model) maySettle(s *State, n *Node, to uint64) bool {
 	if m.Wrong == EtcdFirst {
 		return n.Charged <= to && to < n.Bound
 	}
-	view := n.view(s)
+	view := m.view(s, n)
+	if s.IsClosed {
+		return to == view.Settled() && (m.Rewrites || to != n.Grant || !n.IsRegistered)
+	}
 	return view.IsSound() && to == view.Settled() && view.MayGrant(to) && (m.Rewrites || to != n.Grant)
 }
 
 // Do carries out a step that May allows.
 func (m *Model) Do(s *State, step Step) {
-	if step.Kind == SetLimit {
-		m.voidAll(s)
-		s.Limit = step.To
+	switch step.Kind {
+	case SetLimit:
+		m.wrote(s, all)
+		granted := s.Granted()
+		if s.Limit = step.To; !s.IsClosed {
+			s.setGranted(granted, step.Shards)
+		}
+		return
+	case Restore:
+		m.restore(s, step.To)
+		return
+	case Reopen:
+		m.reopen(s, step.Shards)
 		return
 	}
 	n := &s.Nodes[step.Node]
@@ -246,19 +377,21 @@ func (m *Model) Do(s *State, step Step) {
 	case Restart:
 		n.IsUp = true
 	case LoseDisk:
-		n.Lost, n.Charged, n.Bound, n.Grant = n.Grant, 0, 0, 0
+		if s.Shards > 1 {
+			// Those of a store that was lost before. In one shard they have no state of their own.
+			n.dropOfLost()
+		}
+		n.Lost, n.Charged, n.Bound, n.Grant, n.IsRegistered = n.Grant, 0, 0, 0, false
 		for i := range n.Sent[:n.Sents] {
 			n.Sent[i].IsAwaited, n.Sent[i].IsOfLost = false, true
 		}
 		n.sort()
 	case Forget:
-		m.voidAll(s)
 		n.dropOfLost()
-		s.Sum -= n.Lost
+		m.giveBack(s, n.Lost, step.Back)
 		n.Lost = 0
 	case ForgetLive:
-		m.voidAll(s)
-		s.Sum -= n.Grant
+		m.giveBack(s, n.Grant, step.Back)
 		n.Grant = 0
 	case OldLog:
 		n.Bound = step.To
@@ -281,13 +414,107 @@ func (m *Model) Do(s *State, step Step) {
 	}
 }
 
-// A write of the tenant's key: all that is under way is void, and all that is known is old.
-func (m *Model) voidAll(s *State) {
+// What a transaction writes of a tenant: its record, and shards of its pool.
+type written struct {
+	isRecord bool
+	shards   uint8
+}
+
+// Everything.
+var all = written{true, 1<<MostShards - 1}
+
+// A write: all that is known is old, and all that is under way is void that compares what is written.
+func (m *Model) wrote(s *State, what written) {
 	for i := range s.Nodes {
-		s.Nodes[i].IsKnown = false
-		if m.Wrong != KeyAlone {
-			s.Nodes[i].dropFrom(0)
+		n := &s.Nodes[i]
+		n.IsKnown = false
+		for at := int(n.Sents) - 1; at >= 0; at-- {
+			if m.isVoid(s, n, &n.Sent[at], what) {
+				n.drop(at)
+			}
 		}
+	}
+}
+
+func (m *Model) isVoid(s *State, n *Node, it *Transaction, what written) bool {
+	switch {
+	case m.Wrong == KeyAlone || m.isFromBefore(it):
+		return false
+	case what.isRecord && m.Wrong != RecordAlone:
+		return true
+	}
+	return m.writes(s, n, it).shards&what.shards != 0
+}
+
+// What a transaction under way is to write.
+func (m *Model) writes(s *State, n *Node, it *Transaction) written {
+	before := n.Grant
+	if it.IsOfLost {
+		before = n.Lost
+	}
+	if it.Grant <= before {
+		return written{it.Grant < before && s.Debt > 0, 1 << it.Back}
+	}
+	shards := uint8(0)
+	for i, took := range it.Takes {
+		if took > 0 {
+			shards |= 1 << i
+		}
+	}
+	return written{false, shards}
+}
+
+// What is given back pays the debt first.
+func (m *Model) giveBack(s *State, amount uint64, shard uint8) {
+	if s.IsClosed {
+		return
+	}
+	paid := rules.Paid(s.Debt, amount)
+	if m.Wrong == DebtUnpaid {
+		paid = 0
+	}
+	m.wrote(s, written{paid > 0, 1 << shard})
+	s.Debt -= paid
+	s.Free[shard] += amount - paid
+}
+
+// The grants of a backup count for nothing, and nothing that was sent before is carried out.
+func (m *Model) restore(s *State, limit uint64) {
+	if m.Wrong == RestoreUnseen {
+		m.restoreFirst(s)
+		return
+	}
+	s.Before = s.Granted()
+	s.Limit, s.Debt, s.Free, s.IsClosed = limit, 0, Shards{}, true
+	for i := range s.Nodes {
+		n := &s.Nodes[i]
+		n.Grant, n.IsRegistered, n.IsKnown = 0, false, false
+		n.dropFrom(0)
+		if m.Wrong == GenerationAlone {
+			n.Sent[0], n.Sents = Transaction{Sum: 1}, 1
+		}
+	}
+}
+
+// Whether it is a lowering of before a restore, which nothing voids: the numbers of revisions come again.
+func (m *Model) isFromBefore(it *Transaction) bool { return m.Wrong == GenerationAlone && it.Sum == 1 }
+
+// A backup from before the first grant.
+func (m *Model) restoreFirst(s *State) {
+	m.wrote(s, all)
+	for i := range s.Nodes {
+		s.Nodes[i].Grant, s.Nodes[i].Lost = 0, 0
+	}
+	s.setGranted(0, s.Divided(s.Limit, 0))
+}
+
+func (m *Model) reopen(s *State, free Shards) {
+	m.wrote(s, all)
+	granted := s.grants()
+	s.IsClosed, s.Before = false, 0
+	s.setGranted(granted, free)
+	for i := range s.Nodes {
+		s.Nodes[i].IsRegistered, s.Nodes[i].IsKnown = false, false
 	}
 }
 
@@ -302,33 +529,57 @@ func (m *Model) send(s *State, n *Node, step Step) {
 	if n.Sents == m.MostSent {
 		return
 	}
-	sent := Transaction{Grant: step.To, IsAwaited: true}
-	if m.Wrong == KeyAlone {
-		sent.Sum = n.view(s).SumAfter(step.To)
+	sent := Transaction{Grant: step.To, Takes: step.Shards, Back: step.Back, IsAwaited: true}
+	switch {
+	case m.Wrong == KeyAlone:
+		sent.Sum = s.Granted() - n.Grant + step.To
+	case m.Wrong == RecordAlone && step.To <= n.Grant:
+		paid := rules.Paid(s.Debt, n.Grant-step.To)
+		sent.Sum = (s.Debt-paid)<<paidBits | paid
 	}
 	n.Sent[n.Sents] = sent
 	n.Sents++
 	n.sort()
 }
 
+// How many bits what is paid has beside the debt.
+const paidBits = 3
+
 func (m *Model) apply(s *State, n *Node, index int) {
 	it := n.Sent[index]
-	view := n.view(s)
+	n.drop(index)
+	before := &n.Grant
 	if it.IsOfLost {
-		view.Grant = n.Lost
+		before = &n.Lost
 	}
-	s.Sum = view.SumAfter(it.Grant)
-	if m.Wrong == KeyAlone {
-		s.Sum = it.Sum
+	switch {
+	case s.IsClosed:
+		n.IsRegistered = n.IsRegistered || !it.IsOfLost
+	case m.Wrong == KeyAlone:
+		m.wrote(s, all)
+		s.setGranted(it.Sum, s.Divided(s.Limit, it.Sum))
+	case it.Grant > *before:
+		m.wrote(s, m.writes(s, n, &it))
+		for i := range it.Takes {
+			s.Free[i] -= it.Takes[i]
+		}
+	case m.Wrong == RecordAlone:
+		m.wrote(s, m.writes(s, n, &it))
+		s.Debt = it.Sum >> paidBits
+		s.Free[it.Back] += *before - it.Grant - it.Sum&MostAmount
+	default:
+		m.giveBack(s, *before-it.Grant, it.Back)
 	}
-	m.voidAll(s)
-	n.dropFrom(0)
-	if it.IsOfLost {
-		n.Lost = it.Grant
-	} else {
-		n.Grant = it.Grant
+	// Each write of the grant voids all others of the store.
+	for at := int(n.Sents) - 1; at >= 0; at-- {
+		if n.Sent[at].IsOfLost == it.IsOfLost && !m.isFromBefore(&n.Sent[at]) {
+			n.drop(at)
+		}
 	}
-	n.IsReplied, n.IsKnown = n.IsReplied || it.IsAwaited, it.IsAwaited
+	*before = it.Grant
+	if !it.IsOfLost {
+		n.IsReplied, n.IsKnown = n.IsReplied || it.IsAwaited, it.IsAwaited
+	}
 }
 
 func (m *Model) answer(n *Node) {
@@ -382,7 +633,11 @@ func (n *Node) sort() {
 }
 
 func (t Transaction) code() uint64 {
-	return t.Grant<<8 | t.Sum<<2 | bit(t.IsAwaited)<<1 | bit(t.IsOfLost)
+	code := t.Grant<<8 | t.Sum<<2 | bit(t.IsAwaited)<<1 | bit(t.IsOfLost)
+	for _, it := range t.Takes {
+		code = code<<3 | it&MostAmount
+	}
+	return code<<1 | uint64(t.Back)
 }
 
 func bit(b bool) uint64 {
@@ -396,26 +651,31 @@ func bit(b bool) uint64 {
 //
 // The last two are of a protocol that isn't wrong: a wrong one breaks them before it passes the limit.
 func (m *Model) Broken(s *State) string {
-	var grants, charged uint64
+	var grants, bounds, charged uint64
 	for i := range s.Nodes {
 		n := &s.Nodes[i]
 		grants += n.Grant + n.Lost
+		bounds += n.Bound
 		charged += n.Charged
 		if n.Charged > n.Bound && m.Wrong != LocalFirst {
 			return "a store is charged above its own limit"
 		}
 	}
 	switch {
-	case grants != s.Sum:
+	case grants != s.Granted() && !s.IsClosed:
 		return "the sum isn't that of the grants (I1)"
-	case charged > s.Sum:
+	case charged > s.Granted():
 		return "more is charged than is granted"
+	case s.Debt > 0 && s.Free.sum() > 0 && m.Wrong != DebtUnpaid:
+		return "there is a debt, and something is free"
 	case m.Wrong != Right && m.Wrong != Held:
 		return ""
+	case bounds > s.Granted():
+		return "the stores' own limits are above what is granted"
 	}
 	for i := range s.Nodes {
 		n := &s.Nodes[i]
-		if n.Bound > n.Grant {
+		if n.Bound > n.Grant && (!s.IsClosed || n.IsRegistered) {
 			return "a store's own limit is above its grant (I2)"
 		}
 		for _, it := range n.Sent[:n.Sents] {
@@ -428,4 +688,6 @@ func (m *Model) Broken(s *State) string {
 }
 
 // Whether a step from that sum of grants has raised it above the limit in force.
-func (s *State) isOvergranted(before uint64) bool { return s.Sum > before && s.Sum > s.Limit }
+func (s *State) isOvergranted(before uint64) bool {
+	return s.Granted() > before && s.Granted() > s.Limit
+}

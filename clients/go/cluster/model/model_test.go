@@ -9,10 +9,15 @@ import (
 
 func search(t *testing.T, model Model, nodes int, limits ...uint64) *Found {
 	t.Helper()
+	return searchShards(t, model, 1, nodes, limits...)
+}
+
+func searchShards(t *testing.T, model Model, shards uint8, nodes int, limits ...uint64) *Found {
+	t.Helper()
 	if model.MostSent == 0 {
 		model.MostSent = 2
 	}
-	search := Search{model, nodes, limits}
+	search := Search{model, nodes, limits, shards}
 	found, err := search.Run()
 	if err != nil {
 		t.Fatal(err)
@@ -23,6 +28,7 @@ func search(t *testing.T, model Model, nodes int, limits ...uint64) *Found {
 // No state breaks an invariant. The counts of states and of steps are those of a model of the same steps that was written
 // apart, in another language.
 func TestAllStates(t *testing.T) {
+	t.Parallel()
 	for _, it := range []struct {
 		nodes         int
 		limits        []uint64
@@ -43,16 +49,77 @@ func TestAllStates(t *testing.T) {
 		if found.Broken != "" || found.States != it.states || it.steps > 0 && found.Steps != it.steps {
 			t.Errorf("%+v: %d states, %d steps, %s", it, found.States, found.Steps, found.Broken)
 		}
-		for kind := Charge; kind <= Set; kind++ {
-			if found.Kinds[kind] == 0 {
-				t.Errorf("%+v: no step is %q", it, kind)
+		hasAllKinds(t, found, false)
+	}
+}
+
+// Whether there is a step of each kind.
+func hasAllKinds(t *testing.T, found *Found, restores bool) {
+	t.Helper()
+	for kind := Charge; kind <= Set; kind++ {
+		if isOfRestores := kind == Restore || kind == Reopen; found.Kinds[kind] == 0 && (restores || !isOfRestores) {
+			t.Errorf("no step is %q", kind)
+		}
+	}
+}
+
+// Nor of a pool in two shards.
+func TestShards(t *testing.T) {
+	t.Parallel()
+	for _, it := range []struct {
+		nodes  int
+		limits []uint64
+		sent   uint8
+		isLong bool
+	}{
+		{2, []uint64{1, 2}, 1, false}, {2, []uint64{1, 2}, 2, true}, {2, []uint64{1, 2, 3}, 2, true}, {3, []uint64{1, 2}, 1, true},
+	} {
+		if it.isLong && os.Getenv("PIBROULEZ_KILLS") == "" {
+			continue
+		}
+		found := searchShards(t, Model{MostSent: it.sent}, 2, it.nodes, it.limits...)
+		t.Logf("%+v: %d states, %d steps", it, found.States, found.Steps)
+		if found.Broken != "" {
+			t.Errorf("%+v: %s", it, found.Broken)
+			for _, line := range found.Path {
+				t.Log(line)
 			}
 		}
+		hasAllKinds(t, found, false)
+	}
+}
+
+// Nor where etcd is restored from a backup, as often as there is.
+func TestRestores(t *testing.T) {
+	t.Parallel()
+	for _, it := range []struct {
+		shards uint8
+		nodes  int
+		limits []uint64
+		sent   uint8
+		isLong bool
+	}{
+		{1, 2, []uint64{1, 2}, 1, false}, {2, 2, []uint64{1, 2}, 1, false}, {1, 2, []uint64{1, 2}, 2, true},
+		{1, 2, []uint64{1, 2, 3}, 2, true}, {2, 2, []uint64{1, 2}, 2, true}, {1, 3, []uint64{1, 2}, 1, true},
+	} {
+		if it.isLong && os.Getenv("PIBROULEZ_KILLS") == "" {
+			continue
+		}
+		found := searchShards(t, Model{MostSent: it.sent, Restores: true}, it.shards, it.nodes, it.limits...)
+		t.Logf("%+v: %d states, %d steps", it, found.States, found.Steps)
+		if found.Broken != "" {
+			t.Errorf("%+v: %s", it, found.Broken)
+			for _, line := range found.Path {
+				t.Log(line)
+			}
+		}
+		hasAllKinds(t, found, true)
 	}
 }
 
 // Nor where a store settles whose grant is its own limit, as the steps of the other quantity are in a walk.
 func TestRewrites(t *testing.T) {
+	t.Parallel()
 	found := search(t, Model{Rewrites: true}, 2, 1, 2)
 	if found.Broken != "" || found.States <= 20_589 {
 		t.Errorf("%d states, %s", found.States, found.Broken)
@@ -61,17 +128,25 @@ func TestRewrites(t *testing.T) {
 
 // Each variant passes what was granted, on two stores and with limits of 1 and 2.
 func TestWrong(t *testing.T) {
-	for name, wrong := range map[string]Wrong{
-		"the store's own limit first":       LocalFirst,
-		"no write where the grant suffices": Unwritten,
-		"lowered in etcd first":             EtcdFirst,
-		"the grant's key alone is compared": KeyAlone,
-		"a running store is forgotten":      LiveForgotten,
-		"a log goes back in time":           LogGoesBack,
+	for name, it := range map[string]struct {
+		model  Model
+		shards uint8
+	}{
+		"the store's own limit first":         {Model{Wrong: LocalFirst}, 1},
+		"no write where the grant suffices":   {Model{Wrong: Unwritten}, 1},
+		"lowered in etcd first":               {Model{Wrong: EtcdFirst}, 1},
+		"the grant's key alone is compared":   {Model{Wrong: KeyAlone}, 1},
+		"a running store is forgotten":        {Model{Wrong: LiveForgotten}, 1},
+		"a log goes back in time":             {Model{Wrong: LogGoesBack}, 1},
+		"a debt isn't paid first":             {Model{Wrong: DebtUnpaid}, 2},
+		"a debt is paid twice":                {Model{Wrong: RecordAlone}, 2},
+		"a restore isn't seen":                {Model{Wrong: RestoreUnseen, Restores: true}, 1},
+		"reopened before all have registered": {Model{Wrong: ReopenedEarly, Restores: true}, 1},
+		"the generation isn't compared":       {Model{Wrong: GenerationAlone, Restores: true}, 1},
 	} {
 		t.Run(name, func(t *testing.T) {
-			found := search(t, Model{Wrong: wrong}, 2, 1, 2)
-			if found.Broken == "" || found.States >= 20_589 {
+			found := searchShards(t, it.model, it.shards, 2, 1, 2)
+			if found.Broken == "" {
 				t.Fatalf("not caught in %d states", found.States)
 			}
 			t.Logf("caught after %d states: %s", found.States, found.Broken)
@@ -85,11 +160,11 @@ func TestWrong(t *testing.T) {
 // Whatever an agent's decision takes from a state is a step of the machine: each amount that a store could lack, with
 // each batch and share.
 func TestDecisionsAreSteps(t *testing.T) {
-	found, model := search(t, Model{}, 2, 1, 2), Model{MostSent: 2}
+	found, model := searchShards(t, Model{MostSent: 1}, 2, 2, 1, 2), Model{MostSent: 2}
 	state := State{Nodes: make([]Node, 2)}
 	looked := 0
-	for it := range found.seen {
-		it.state(&state)
+	for i := range found.states {
+		found.states[i].state(&state)
 		for i := range state.Nodes {
 			n := &state.Nodes[i]
 			if !n.IsUp || n.Phase != Idle || !n.IsKnown {
@@ -97,8 +172,8 @@ func TestDecisionsAreSteps(t *testing.T) {
 			}
 			for lacks := uint64(1); lacks <= 3; lacks++ {
 				for extra := uint64(0); extra <= 2; extra++ {
-					to, isThere := n.view(&state).Next(lacks, extra, extra)
-					if isThere && !model.May(&state, Step{Kind: Raise, Node: i, To: to}) {
+					to, isThere := model.view(&state, n).Next(lacks, extra, extra)
+					if isThere && !model.May(&state, raiseOf(&state, i, to)) {
 						t.Fatalf("%+v: %d isn't granted", state, to)
 					}
 					looked++
@@ -118,26 +193,32 @@ func TestDecisionsAreSteps(t *testing.T) {
 // Where no more faults come and all lost stores are forgotten, stores that all wait for an amount that the limit leaves
 // get it, one of them at first. Held is the variant in which they wait with what they don't use in hand.
 func TestProgress(t *testing.T) {
+	t.Parallel()
 	for _, it := range []struct {
+		shards uint8
 		nodes  int
 		limits []uint64
-	}{{2, []uint64{1, 2, 3}}, {3, []uint64{1}}} {
-		looked, stuck := progress(t, Right, it.nodes, it.limits...)
+		isLong bool
+	}{{1, 2, []uint64{1, 2, 3}, false}, {1, 3, []uint64{1}, false}, {2, 2, []uint64{1, 2}, true}} {
+		if it.isLong && os.Getenv("PIBROULEZ_KILLS") == "" {
+			continue
+		}
+		looked, stuck := progress(t, Right, it.shards, it.nodes, it.limits...)
 		if looked < 500 || stuck > 0 {
 			t.Errorf("%+v: %d of %d states are stuck", it, stuck, looked)
 		}
 	}
-	if looked, stuck := progress(t, Held, 2, 1, 2); stuck == 0 {
+	if looked, stuck := progress(t, Held, 1, 2, 1, 2); stuck == 0 {
 		t.Errorf("waiting with idle in hand: none of %d states is stuck", looked)
 	}
 }
 
-func progress(t *testing.T, wrong Wrong, nodes int, limits ...uint64) (looked, stuck int) {
+func progress(t *testing.T, wrong Wrong, shards uint8, nodes int, limits ...uint64) (looked, stuck int) {
 	t.Helper()
-	found, model := search(t, Model{Wrong: wrong}, nodes, limits...), Model{Wrong: wrong, MostSent: 2}
+	found, model := searchShards(t, Model{Wrong: wrong}, shards, nodes, limits...), Model{Wrong: wrong, MostSent: 2}
 	state := State{Nodes: make([]Node, nodes)}
-	for it := range found.seen {
-		it.state(&state)
+	for i := range found.states {
+		found.states[i].state(&state)
 		charged, hasLost := uint64(0), false
 		for i := range state.Nodes {
 			n := &state.Nodes[i]
@@ -152,7 +233,8 @@ func progress(t *testing.T, wrong Wrong, nodes int, limits ...uint64) (looked, s
 		}
 		for need := uint64(1); need <= state.Limit-charged; need++ {
 			looked++
-			s := State{state.Limit, state.Sum, append([]Node(nil), state.Nodes...)}
+			s := state
+			s.Nodes = append([]Node(nil), state.Nodes...)
 			if !isServed(t, &model, &s, need) {
 				stuck++
 			}
@@ -198,7 +280,7 @@ func isServed(t *testing.T, model *Model, s *State, need uint64) bool {
 		n := &s.Nodes[i]
 		if free := n.Bound - n.Charged; free >= need {
 			return true
-		} else if to, isThere := n.view(s).Next(need-free, 0, 0); isThere {
+		} else if to, isThere := model.view(s, n).Next(need-free, 0, 0); isThere {
 			ask(t, model, s, i, Raise, to)
 			do(t, model, s, Step{Kind: Charge, Node: i, To: need})
 			return true
@@ -227,7 +309,21 @@ func ask(t *testing.T, model *Model, s *State, i int, kind Kind, to uint64) {
 	if !s.Nodes[i].IsKnown {
 		do(t, model, s, Step{Kind: Read, Node: i})
 	}
-	do(t, model, s, Step{Kind: kind, Node: i, To: to})
+	step := raiseOf(s, i, to)
+	step.Kind = kind
+	do(t, model, s, step)
 	do(t, model, s, Step{Kind: Apply, Node: i})
 	finish(t, model, s, i)
+}
+
+// A raise of a store that takes from the first shard what that has, and from the next one the rest.
+func raiseOf(s *State, i int, to uint64) Step {
+	step := Step{Kind: Raise, Node: i, To: to}
+	if grant := s.Nodes[i].Grant; to > grant {
+		step.Shards[0] = to - grant
+		if more := step.Shards[0]; more > s.Free[0] {
+			step.Shards = Shards{s.Free[0], more - s.Free[0]}
+		}
+	}
+	return step
 }

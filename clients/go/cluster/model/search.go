@@ -7,6 +7,8 @@ type Search struct {
 	Model  Model
 	Nodes  int
 	Limits []uint64
+	// Shards is how many the pool has: one where it is 0.
+	Shards uint8
 }
 
 // A Found is what a search has found.
@@ -18,7 +20,9 @@ type Found struct {
 	Broken string
 	// Path leads from the first state there, in words.
 	Path []string
-	seen map[key]origin
+	// The states in the order in which they were found.
+	states []reached
+	seen   map[key]struct{}
 }
 
 // MostNodes is how many stores a search may have, and MostAmount the greatest limit.
@@ -30,9 +34,10 @@ const (
 // A state in few bits, its stores in one order: states that differ in their order are one.
 type key [1 + MostNodes]uint64
 
-// The state before, and the step from there.
-type origin struct {
-	from key
+// A state, and by which step of which state before it was found.
+type reached struct {
+	key
+	from int
 	step Step
 }
 
@@ -41,53 +46,50 @@ func (s *Search) Run() (*Found, error) {
 	if s.Nodes > MostNodes || s.Model.MostSent > 2 || s.most() > MostAmount {
 		return nil, fmt.Errorf("a search of %d stores with limits to %d is too large", s.Nodes, s.most())
 	}
-	first := State{Limit: s.most(), Nodes: make([]Node, s.Nodes)}
+	shards := s.Shards
+	if shards == 0 {
+		shards = 1
+	}
+	first := State{Limit: s.most(), Shards: shards, Nodes: make([]Node, s.Nodes)}
+	first.Free = first.Divided(s.most(), 0)
 	for i := range first.Nodes {
 		first.Nodes[i] = NewNode()
 	}
 	begin := keyOf(&first)
-	found := &Found{Kinds: map[Kind]int{}, seen: map[key]origin{begin: {}}}
+	found := &Found{Kinds: map[Kind]int{}, states: []reached{{key: begin}}, seen: map[key]struct{}{begin: {}}}
 	state, after := State{Nodes: make([]Node, s.Nodes)}, State{Nodes: make([]Node, s.Nodes)}
-	for todo := []key{begin}; len(todo) > 0 && found.Broken == ""; {
-		var next []key
-		for _, from := range todo {
-			from.state(&state)
-			s.steps(&state, func(step Step) bool {
-				after.Limit, after.Sum = state.Limit, state.Sum
-				copy(after.Nodes, state.Nodes)
-				s.Model.Do(&after, step)
-				if to, isNew := s.look(found, from, &state, step, &after); isNew {
-					next = append(next, to)
-				}
-				return found.Broken == ""
-			})
-			if found.Broken != "" {
-				break
-			}
-		}
-		todo = next
+	for from := 0; from < len(found.states) && found.Broken == ""; from++ {
+		found.states[from].state(&state)
+		s.steps(&state, func(step Step) bool {
+			nodes := after.Nodes
+			copy(nodes, state.Nodes)
+			after = state
+			after.Nodes = nodes
+			s.Model.Do(&after, step)
+			s.look(found, from, &state, step, &after)
+			return found.Broken == ""
+		})
 	}
-	found.States = len(found.seen)
+	found.States = len(found.states)
 	return found, nil
 }
 
-// Looks at where a step leads to, and whether that was not seen before.
-func (s *Search) look(found *Found, from key, state *State, step Step, after *State) (to key, isNew bool) {
+// Looks at where a step leads to.
+func (s *Search) look(found *Found, from int, state *State, step Step, after *State) {
 	found.Steps++
 	found.Kinds[step.Kind]++
-	to = keyOf(after)
+	to := keyOf(after)
 	if _, isSeen := found.seen[to]; !isSeen {
-		isNew = true
-		found.seen[to] = origin{from, step}
+		found.seen[to] = struct{}{}
+		found.states = append(found.states, reached{to, from, step})
 		found.Broken = s.Model.Broken(after)
 	}
-	if after.isOvergranted(state.Sum) {
+	if after.isOvergranted(state.Granted()) {
 		found.Broken = "more is granted than the limit in force (I1)"
 	}
 	if found.Broken != "" {
 		found.Path = found.path(from, step, after)
 	}
-	return to, isNew
 }
 
 func (s *Search) most() uint64 {
@@ -112,16 +114,23 @@ func (s *Search) steps(state *State, do func(Step) bool) {
 		}
 	}
 	for _, limit := range s.Limits {
-		if !try(Step{Kind: SetLimit, To: limit}) {
+		free := state.Divided(limit, state.Granted())
+		if !try(Step{Kind: SetLimit, To: limit, Shards: free}) || !try(Step{Kind: Restore, To: limit}) {
 			return
 		}
 	}
+	try(Step{Kind: Reopen, Shards: state.Divided(state.Limit, state.grants())})
 }
 
 func (s *Search) nodeSteps(state *State, i int, try func(Step) bool) bool {
 	n := &state.Nodes[i]
-	for _, kind := range []Kind{Crash, Restart, LoseDisk, Forget, Read, GiveUp, Answer, ForgetLive} {
+	for _, kind := range []Kind{Crash, Restart, LoseDisk, Read, GiveUp, Answer, ForgetLive} {
 		if !try(Step{Kind: kind, Node: i}) {
+			return false
+		}
+	}
+	for back := uint8(0); back < state.Shards; back++ {
+		if !try(Step{Kind: Forget, Node: i, Back: back}) {
 			return false
 		}
 	}
@@ -131,8 +140,11 @@ func (s *Search) nodeSteps(state *State, i int, try func(Step) bool) bool {
 		}
 	}
 	for to := uint64(0); to <= s.most()+n.Grant; to++ {
-		for _, kind := range []Kind{Lower, Raise, Settle} {
-			if !try(Step{Kind: kind, Node: i, To: to}) {
+		if !try(Step{Kind: Lower, Node: i, To: to}) || !s.raises(state, i, to, try) {
+			return false
+		}
+		for back := uint8(0); back < state.Shards; back++ {
+			if !try(Step{Kind: Settle, Node: i, To: to, Back: back}) {
 				return false
 			}
 		}
@@ -157,30 +169,63 @@ func (s *Search) nodeSteps(state *State, i int, try func(Step) bool) bool {
 	return true
 }
 
+// Each way to take what a raise needs from the shards, or to give back what it doesn't.
+func (s *Search) raises(state *State, i int, to uint64, try func(Step) bool) bool {
+	grant := state.Nodes[i].Grant
+	if to <= grant {
+		for back := uint8(0); back < state.Shards; back++ {
+			if !try(Step{Kind: Raise, Node: i, To: to, Back: back}) {
+				return false
+			}
+		}
+		return true
+	}
+	most := uint64(0)
+	if state.Shards > 1 {
+		most = to - grant
+	}
+	for second := uint64(0); second <= most; second++ {
+		if !try(Step{Kind: Raise, Node: i, To: to, Shards: Shards{to - grant - second, second}}) {
+			return false
+		}
+	}
+	return true
+}
+
 func (n *Node) code() uint64 {
 	code := bit(n.IsUp) | n.Charged<<1 | n.Bound<<4 | n.Grant<<7 | n.Lost<<10 | uint64(n.Phase)<<13 | n.To<<15
-	code |= bit(n.IsKnown)<<18 | bit(n.IsReplied)<<19
+	code |= bit(n.IsKnown)<<18 | bit(n.IsReplied)<<19 | bit(n.IsRegistered)<<20
 	for i, it := range n.Sent[:n.Sents] {
-		code |= (1 | it.Grant<<1 | bit(it.IsAwaited)<<4 | bit(it.IsOfLost)<<5 | it.Sum<<6) << (20 + 12*i)
+		sent := 1 | it.Grant<<1 | bit(it.IsAwaited)<<4 | bit(it.IsOfLost)<<5 | it.Sum<<6 | it.Takes[0]<<12 | it.Takes[1]<<15 | uint64(it.Back)<<18
+		code |= sent << (firstSent + sentBits*i)
 	}
 	return code
 }
+
+// Where the transactions of a node are in its code, and how many bits each has.
+const (
+	firstSent = 21
+	sentBits  = 19
+)
 
 func (n *Node) decode(code uint64) {
 	has := func(at int) bool { return code>>at&1 == 1 }
 	amount := func(at int) uint64 { return code >> at & MostAmount }
 	*n = Node{
 		IsUp: has(0), Charged: amount(1), Bound: amount(4), Grant: amount(7), Lost: amount(10),
-		Phase: Phase(code >> 13 & 3), To: amount(15), IsKnown: has(18), IsReplied: has(19),
+		Phase: Phase(code >> 13 & 3), To: amount(15), IsKnown: has(18), IsReplied: has(19), IsRegistered: has(20),
 	}
-	for at := 20; has(at); at += 12 {
-		n.Sent[n.Sents] = Transaction{Grant: amount(at + 1), IsAwaited: has(at + 4), IsOfLost: has(at + 5), Sum: code >> (at + 6) & 63}
+	for at := firstSent; has(at); at += sentBits {
+		n.Sent[n.Sents] = Transaction{
+			Grant: amount(at + 1), IsAwaited: has(at + 4), IsOfLost: has(at + 5), Sum: code >> (at + 6) & 63,
+			Takes: Shards{amount(at + 12), amount(at + 15)}, Back: uint8(code >> (at + 18) & 1),
+		}
 		n.Sents++
 	}
 }
 
 func keyOf(s *State) key {
-	k := key{s.Limit<<32 | s.Sum}
+	k := key{s.Limit | s.Debt<<8 | s.Before<<16 | s.Free[0]<<24 | s.Free[1]<<32 | bit(s.IsClosed)<<40 | uint64(s.Shards)<<41}
 	for i := range s.Nodes {
 		code := s.Nodes[i].code()
 		at := i + 1
@@ -193,32 +238,30 @@ func keyOf(s *State) key {
 }
 
 func (k key) state(s *State) {
-	s.Limit, s.Sum = k[0]>>32, k[0]&(1<<32-1)
+	amount := func(at int) uint64 { return k[0] >> at & 0xff }
+	s.Limit, s.Debt, s.Before, s.Free = amount(0), amount(8), amount(16), Shards{amount(24), amount(32)}
+	s.IsClosed, s.Shards = k[0]>>40&1 == 1, uint8(k[0]>>41)
 	for i := range s.Nodes {
 		s.Nodes[i].decode(k[i+1])
 	}
 }
 
 // The way to a state, from the first one.
-func (f *Found) path(from key, last Step, after *State) []string {
+func (f *Found) path(from int, last Step, after *State) []string {
 	words := []string{wordsOf(last, after)}
 	state := State{Nodes: make([]Node, len(after.Nodes))}
-	for at := from; ; {
-		it := f.seen[at]
-		if it.from == (key{}) {
-			break
-		}
+	for at := f.states[from]; at.step != (Step{}); at = f.states[at.from] {
 		at.state(&state)
-		words = append(words, "")
-		copy(words[1:], words)
-		words[0] = wordsOf(it.step, &state)
-		at = it.from
+		words = append([]string{wordsOf(at.step, &state)}, words...)
 	}
 	return words
 }
 
 func wordsOf(step Step, s *State) string {
-	text := fmt.Sprintf("%-10s limit %d, granted %d", step.Kind, s.Limit, s.Sum)
+	text := fmt.Sprintf("%-10s limit %d, granted %d", step.Kind, s.Limit, s.Granted())
+	if s.IsClosed {
+		text += ", closed"
+	}
 	for i := range s.Nodes {
 		n := &s.Nodes[i]
 		text += fmt.Sprintf("; charged %d of %d, grant %d, lost %d, sent", n.Charged, n.Bound, n.Grant, n.Lost)

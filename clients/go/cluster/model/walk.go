@@ -22,9 +22,12 @@ type walker struct {
 	isApplied, isAnswered bool
 }
 
-// NewWalk begins where there is no store, and a limit of 0.
+// NewWalk begins where there is no store, and a limit of 0. Of a pool in more than MostShards those after the first ones
+// are counted as one.
 func NewWalk() *Walk {
-	return &Walk{model: Model{MostSent: MostSent, Rewrites: true}, stores: map[string]*walker{}}
+	return &Walk{
+		model: Model{MostSent: MostSent, Rewrites: true, Restores: true}, state: State{Shards: MostShards}, stores: map[string]*walker{},
+	}
 }
 
 // State is where the walk is, with the stores in the order in which they have joined.
@@ -41,13 +44,13 @@ func (w *Walk) Node(store string) (*Node, error) {
 
 func (w *Walk) step(step Step) error {
 	if !w.model.May(&w.state, step) {
-		return fmt.Errorf("no step of the protocol: %v, with limit %d, granted %d, %+v", step, w.state.Limit, w.state.Sum, w.node(step))
+		return fmt.Errorf("no step of the protocol: %v, with limit %d, granted %d, %+v", step, w.state.Limit, w.state.Granted(), w.node(step))
 	}
-	granted := w.state.Sum
+	granted := w.state.Granted()
 	w.model.Do(&w.state, step)
 	w.Steps++
 	if w.state.isOvergranted(granted) {
-		return fmt.Errorf("%v has %d granted above the limit %d in force (I1)", step, w.state.Sum, w.state.Limit)
+		return fmt.Errorf("%v has %d granted above the limit %d in force (I1)", step, w.state.Granted(), w.state.Limit)
 	}
 	if broken := w.model.Broken(&w.state); broken != "" {
 		return fmt.Errorf("after %v: %s", step, broken)
@@ -56,7 +59,7 @@ func (w *Walk) step(step Step) error {
 }
 
 func (w *Walk) node(step Step) Node {
-	if step.Kind == SetLimit {
+	if step.Kind == SetLimit || step.Kind == Restore || step.Kind == Reopen {
 		return Node{}
 	}
 	return w.state.Nodes[step.Node]
@@ -87,13 +90,16 @@ func (w *Walk) Join(store string) error {
 	return nil
 }
 
-// SetLimit: an operator has set the tenant's limit.
-func (w *Walk) SetLimit(limit uint64) error {
-	if limit == w.state.Limit {
-		return nil
-	}
-	return w.step(Step{Kind: SetLimit, To: limit})
+// SetLimit: an operator has set the tenant's limit, and divided so what is free.
+func (w *Walk) SetLimit(limit uint64, free Shards) error {
+	return w.step(Step{Kind: SetLimit, To: limit, Shards: free})
 }
+
+// Restore: etcd was restored from a backup, in which the tenant has this limit.
+func (w *Walk) Restore(limit uint64) error { return w.step(Step{Kind: Restore, To: limit}) }
+
+// Reopen: an operator has made the sum anew, and divided so what is free.
+func (w *Walk) Reopen(free Shards) error { return w.step(Step{Kind: Reopen, Shards: free}) }
 
 // Begin and End: an agent and its store have begun, or ended in any way.
 func (w *Walk) Begin(store string) error { return w.stepAt(store, Restart, 0) }
@@ -106,8 +112,14 @@ func (w *Walk) End(store string) error {
 	})
 }
 
+// A Change is what a transaction takes from each shard, and the shard that gets what it gives back.
+type Change struct {
+	Takes Shards
+	Back  uint8
+}
+
 // Send: a transaction of this id was sent, for this grant.
-func (w *Walk) Send(store, id string, to uint64) error {
+func (w *Walk) Send(store, id string, to uint64, change Change) error {
 	return w.at(store, func(it *walker, n *Node) error {
 		if err := w.rest(it, n); err != nil {
 			return err
@@ -122,7 +134,7 @@ func (w *Walk) Send(store, id string, to uint64) error {
 		if to <= n.Bound {
 			kind = Settle
 		}
-		return w.step(Step{Kind: kind, Node: it.at, To: to})
+		return w.step(Step{Kind: kind, Node: it.at, To: to, Shards: change.Takes, Back: change.Back})
 	})
 }
 
@@ -192,12 +204,24 @@ func (w *Walk) Charged(store string, to uint64) error {
 	})
 }
 
-// Forget: an operator has forgotten a store that has ended, and its grant is free.
-func (w *Walk) Forget(store string) error {
+// Forget: an operator has forgotten a store that has ended, and its grant is free in this shard. In a closed tenant the
+// empty store that the machine has in its place registers.
+func (w *Walk) Forget(store string, back uint8) error {
 	return w.at(store, func(it *walker, n *Node) error {
-		if err := w.step(Step{Kind: LoseDisk, Node: it.at}); err != nil || n.Lost == 0 {
-			return err
+		steps := []Step{{Kind: LoseDisk, Node: it.at}}
+		if n.Grant > 0 {
+			steps = append(steps, Step{Kind: Forget, Node: it.at, Back: back})
 		}
-		return w.step(Step{Kind: Forget, Node: it.at})
+		if w.state.IsClosed {
+			for _, kind := range []Kind{Restart, Read, Settle, Apply, Answer, Crash} {
+				steps = append(steps, Step{Kind: kind, Node: it.at})
+			}
+		}
+		for _, it := range steps {
+			if err := w.step(it); err != nil {
+				return err
+			}
+		}
+		return nil
 	})
 }

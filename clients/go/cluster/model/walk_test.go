@@ -3,12 +3,22 @@ package model
 import (
 	"strings"
 	"testing"
+
+	"pibroulez.example/pibroulez/cluster/rules"
 )
 
 // A call of a walk.
 type seen struct {
 	call, store, id string
 	to              uint64
+}
+
+// A change of the first shard alone.
+func changeOf(w *Walk, store string, to uint64) (change Change) {
+	if n, err := w.Node(store); err == nil && to > n.Grant && !w.state.IsClosed {
+		change.Takes[0] = to - n.Grant
+	}
+	return change
 }
 
 func take(w *Walk, it seen) error {
@@ -20,9 +30,15 @@ func take(w *Walk, it seen) error {
 	case "end":
 		return w.End(it.store)
 	case "limit":
-		return w.SetLimit(it.to)
+		free, _ := rules.Limited(it.to, w.state.Granted())
+		return w.SetLimit(it.to, Shards{free})
+	case "restore":
+		return w.Restore(it.to)
+	case "reopen":
+		free, _ := rules.Limited(w.state.Limit, w.state.grants())
+		return w.Reopen(Shards{free})
 	case "send":
-		return w.Send(it.store, it.id, it.to)
+		return w.Send(it.store, it.id, it.to, changeOf(w, it.store, it.to))
 	case "apply":
 		return w.Apply(it.store, it.id)
 	case "answer":
@@ -32,7 +48,7 @@ func take(w *Walk, it seen) error {
 	case "charged":
 		return w.Charged(it.store, it.to)
 	}
-	return w.Forget(it.store)
+	return w.Forget(it.store, 0)
 }
 
 // The first store is granted 100 of 100, and has 60 charged.
@@ -74,6 +90,19 @@ func TestWalks(t *testing.T) {
 		"an answer that never came":     {[]seen{{"send", "one", "2", 100}, {"answer", "one", "2", 0}}, "wasn't carried out"},
 		"a transaction that nobody has": {[]seen{{"apply", "one", "2", 0}}, "isn't under way"},
 		"forgotten while it runs":       {[]seen{{"forget", "one", "", 0}}, "no step of the protocol: lose disk"},
+		"restored, registered and reopened": {[]seen{
+			{"restore", "", "", 80}, {"send", "one", "2", 100}, {"apply", "one", "2", 0}, {"send", "two", "1", 0}, {"apply", "two", "1", 0},
+			{"reopen", "", "", 0}, {"bound", "one", "", 60}, {"send", "one", "3", 60}, {"apply", "one", "3", 0},
+			{"send", "two", "2", 20}, {"apply", "two", "2", 0}, {"answer", "two", "2", 0}, {"bound", "two", "", 20},
+		}, ""},
+		"restored, forgotten and reopened": {[]seen{
+			{"restore", "", "", 100}, {"send", "two", "1", 0}, {"apply", "two", "1", 0}, {"end", "one", "", 0}, {"forget", "one", "", 0},
+			{"reopen", "", "", 0}, {"send", "two", "2", 100}, {"apply", "two", "2", 0}, {"answer", "two", "2", 0}, {"bound", "two", "", 100},
+		}, ""},
+		"reopened without all":          {[]seen{{"restore", "", "", 100}, {"reopen", "", "", 0}}, "no step of the protocol: reopen"},
+		"raised after a restore":        {[]seen{{"restore", "", "", 200}, {"send", "two", "1", 40}}, "no step of the protocol: raise 40"},
+		"granted before, applied after": {[]seen{{"send", "one", "2", 100}, {"restore", "", "", 100}, {"apply", "one", "2", 0}}, "isn't under way"},
+		"raised while there is a debt":  {[]seen{{"limit", "", "", 50}, {"bound", "one", "", 60}, {"send", "one", "2", 60}, {"apply", "one", "2", 0}, {"send", "two", "1", 1}}, "no step of the protocol: raise 1"},
 		"not joined":                    {[]seen{{"charged", "three", "", 1}}, "has not joined"},
 	} {
 		t.Run(name, func(t *testing.T) {

@@ -7,8 +7,9 @@ package rules
 
 // A View is what a store knows of a tenant, in one quantity.
 type View struct {
-	// Limit is the tenant's limit, and Granted the sum of its grants, in etcd.
-	Limit, Granted uint64
+	// Free is what of the tenant's limit no store is granted, in etcd, in some shards of its pool. Debt is what is granted
+	// above the limit, after it was lowered.
+	Free, Debt uint64
 	// Grant is the store's grant, in etcd, and Bound the store's own limit, in its log.
 	Grant, Bound uint64
 }
@@ -17,17 +18,22 @@ type View struct {
 // is an older one than the grant, or another store writes this one's grants.
 func (v View) IsSound() bool { return v.Bound <= v.Grant }
 
-// Pool is how far the store may raise its own limit: what no store is granted, and what this one is and doesn't use.
-func (v View) Pool() uint64 { return minus(v.Limit, v.Granted) + minus(v.Grant, v.Bound) }
-
-// MayGrant says that a grant may become `to`: it stays at the store's own limit or above it, and it is raised no further
-// than the tenant's limit leaves. A grant may be lowered also where the tenant's limit has been set below the sum.
-func (v View) MayGrant(to uint64) bool {
-	return to >= v.Bound && (to <= v.Grant || to-v.Grant <= minus(v.Limit, v.Granted))
+// Room is what may be granted: nothing while there is a debt.
+func (v View) Room() uint64 {
+	if v.Debt > 0 {
+		return 0
+	}
+	return v.Free
 }
 
-// SumAfter is the sum of the tenant's grants once this one is `to`.
-func (v View) SumAfter(to uint64) uint64 { return minus(v.Granted, v.Grant) + to }
+// Pool is how far the store may raise its own limit: what may be granted, and what it is granted and doesn't use.
+func (v View) Pool() uint64 { return v.Room() + minus(v.Grant, v.Bound) }
+
+// MayGrant says that a grant may become `to`: it stays at the store's own limit or above it, and it is raised by no more
+// than is free. It may be lowered also where there is a debt.
+func (v View) MayGrant(to uint64) bool {
+	return to >= v.Bound && (to <= v.Grant || to-v.Grant <= v.Room())
+}
 
 // Settled is the grant that a store asks for which gives back what it doesn't use, or doesn't know whether it has been
 // granted: its own limit. Only a sound view has one.
@@ -49,6 +55,23 @@ func Share(left, share uint64) uint64 {
 		return left
 	}
 	return left / share
+}
+
+// Paid is what of an amount that is given back pays a debt. Only the rest of it is free.
+func Paid(debt, back uint64) uint64 { return least(debt, back) }
+
+// Limited is what is free, and what the debt is, where so much is granted and the tenant's limit is this.
+func Limited(limit, granted uint64) (free, debt uint64) {
+	return minus(limit, granted), minus(granted, limit)
+}
+
+// Part is what the shard of a number has of what is divided among so many: each the same, but for one at the most.
+func Part(free, shards, number uint64) uint64 {
+	part := free / shards
+	if number < free%shards {
+		part++
+	}
+	return part
 }
 
 // MayRaise says that a store may raise its own limit to `to`. written is the grant that etcd has answered to be written

@@ -6,20 +6,20 @@ import (
 	"testing"
 )
 
-// Every view of small numbers: what Next asks for may be granted, covers what is lacked, and keeps the sum within the
-// limit where it is raised; and Settled may always be granted where the view is sound.
+// Every view of small numbers: what Next asks for may be granted, covers what is lacked, and takes no more than is free;
+// and Settled may always be granted where the view is sound.
 func TestNextMayBeGranted(t *testing.T) {
 	const most = 4
 	looked := 0
-	for limit := uint64(0); limit <= most; limit++ {
-		for granted := uint64(0); granted <= most; granted++ {
-			for grant := uint64(0); grant <= granted; grant++ {
+	for free := uint64(0); free <= most; free++ {
+		for debt := uint64(0); debt <= most; debt++ {
+			for grant := uint64(0); grant <= most; grant++ {
 				for bound := uint64(0); bound <= grant; bound++ {
-					view := View{limit, granted, grant, bound}
-					if !view.IsSound() || !view.MayGrant(view.Settled()) || view.SumAfter(view.Settled()) > granted {
+					view := View{free, debt, grant, bound}
+					if !view.IsSound() || !view.MayGrant(view.Settled()) || view.Settled() > grant {
 						t.Fatalf("%+v can't settle", view)
 					}
-					for lacks := uint64(0); lacks <= most; lacks++ {
+					for lacks := uint64(0); lacks <= 2*most; lacks++ {
 						for extra := uint64(0); extra <= most; extra++ {
 							for share := uint64(0); share <= most; share++ {
 								looked++
@@ -39,29 +39,31 @@ func TestNextMayBeGranted(t *testing.T) {
 func isNext(t *testing.T, view View, lacks, extra, share uint64) {
 	t.Helper()
 	to, isThere := view.Next(lacks, extra, share)
-	switch after := view.SumAfter(to); {
+	switch {
 	case isThere != (lacks <= view.Pool()):
 		t.Fatalf("%+v lacks %d: %v", view, lacks, isThere)
 	case !isThere:
 	case !view.MayGrant(to) || to < view.Bound+lacks || to > view.Bound+lacks+extra:
 		t.Fatalf("%+v lacks %d: grant %d", view, lacks, to)
-	case after > view.Granted && after > view.Limit:
-		t.Fatalf("%+v lacks %d: sum %d", view, lacks, after)
+	case to > view.Grant && (view.Debt > 0 || to-view.Grant > view.Free):
+		t.Fatalf("%+v lacks %d: grant %d takes more than is free", view, lacks, to)
 	}
 }
 
 // Worked figures of the page: a limit of 100, of which another store has 40.
 func TestFigures(t *testing.T) {
-	view := View{Limit: 100, Granted: 70, Grant: 30, Bound: 20}
+	view := View{Free: 30, Grant: 30, Bound: 20}
 	for _, it := range []struct{ got, want uint64 }{
 		{view.Pool(), 40},
-		{view.SumAfter(60), 100},
 		{Share(30, 4), 7},
 		{Share(30, 0), 30},
 		{Lowered(20, 5, 4), 9},
 		{Lowered(20, 5, 15), 20},
 		{Lowered(20, 5, math.MaxUint64), 20},
 		{Lowered(20, 20, 0), 20},
+		{Paid(5, 3), 3},
+		{Paid(5, 8), 5},
+		{Paid(0, 8), 0},
 	} {
 		if it.got != it.want {
 			t.Errorf("%d, not %d", it.got, it.want)
@@ -74,12 +76,36 @@ func TestFigures(t *testing.T) {
 		t.Error("granted above the limit or below the store's own")
 	}
 	// A limit that was set below the sum: nothing is raised, and what is given back may be less than enough.
-	above := View{Limit: 50, Granted: 70, Grant: 30, Bound: 20}
+	above := View{Debt: 20, Grant: 30, Bound: 20}
 	if above.MayGrant(31) || !above.MayGrant(30) || !above.MayGrant(20) || above.Pool() != 10 {
 		t.Error("a sum above the limit is raised, or isn't lowered")
 	}
 	if MayRaise(0, 1) || !MayRaise(5, 5) || MayRaise(5, 6) {
 		t.Error("a limit is raised without a write")
+	}
+}
+
+// What is free and what is owed are of the limit and of what is granted, and all that is free is divided.
+func TestLimits(t *testing.T) {
+	for _, it := range []struct{ limit, granted, free, debt uint64 }{{100, 70, 30, 0}, {70, 70, 0, 0}, {50, 70, 0, 20}, {0, 0, 0, 0}} {
+		if free, debt := Limited(it.limit, it.granted); free != it.free || debt != it.debt {
+			t.Errorf("%+v: %d free, a debt of %d", it, free, debt)
+		}
+	}
+	for free := uint64(0); free < 20; free++ {
+		for shards := uint64(1); shards < 6; shards++ {
+			sum := uint64(0)
+			for number := uint64(0); number < shards; number++ {
+				part := Part(free, shards, number)
+				if part != free/shards && part != free/shards+1 {
+					t.Errorf("%d of %d in %d shards", part, free, shards)
+				}
+				sum += part
+			}
+			if sum != free {
+				t.Errorf("%d of %d in %d shards in all", sum, free, shards)
+			}
+		}
 	}
 }
 
@@ -111,12 +137,12 @@ func fill(limit uint64, stores int, batch, share uint64) (charged uint64, grants
 		}
 		need := uint64(1 + random.Intn(20))
 		if free := bounds[it] - charges[it]; need > free {
-			view := View{Limit: limit, Granted: granted, Grant: bounds[it], Bound: bounds[it]}
-			to, isThere := view.Next(need-free, batch, share)
+			left, _ := Limited(limit, granted)
+			to, isThere := View{Free: left, Grant: bounds[it], Bound: bounds[it]}.Next(need-free, batch, share)
 			if !isThere {
 				return charged, grants, exact
 			}
-			granted, bounds[it] = view.SumAfter(to), to
+			granted, bounds[it] = granted+to-bounds[it], to
 			grants++
 		}
 		charges[it] += need

@@ -1,0 +1,122 @@
+package cluster
+
+import (
+	"context"
+	"fmt"
+	"testing"
+
+	"pibroulez.example/pibroulez"
+)
+
+// A tenant's pool in shards.
+
+// The free blocks and inodes of each shard.
+func (w *world) shards(tenant string) []Usage {
+	w.t.Helper()
+	s := must(w.operator.snapshot(ctx))(w.t)
+	all := make([]Usage, len(s.shards[tenant]))
+	for number, it := range s.shards[tenant] {
+		all[number] = it.Free
+	}
+	return all
+}
+
+// Where a store's own shard is short it takes from the next ones, until all are empty; what is given back goes to its own.
+func TestShortShards(t *testing.T) {
+	t.Parallel()
+	w := newWorld(t)
+	isError(t, w.operator.SetShards(ctx, "a", 2), ErrNoTenant)
+	w.limit("a", 102, 103)
+	isError(t, w.operator.SetShards(ctx, "a", 0), ErrBadShards)
+	isError(t, w.operator.SetShards(ctx, "a", MostShards+1), ErrBadShards)
+	must(0, w.operator.SetShards(ctx, "a", 4))(t)
+	equal(t, w.shards("a"), []Usage{usage(26, 26), usage(26, 26), usage(25, 26), usage(25, 25)})
+	small := func(c *Config) { c.Batch = usage(1, 1) }
+	one := w.node("one", small).settle()
+	must(0, one.take("a", "k", usage(20, 30)))(t)
+	must(0, one.take("a", "l", usage(80, 60)))(t)
+	equal(t, must(w.operator.Quota(ctx, "a"))(t).Free, usage(1, 12))
+	two := w.node("two", small).settle()
+	must(0, two.take("a", "k", usage(1, 1)))(t)
+	isError(t, two.take("a", "l", usage(2, 1)), pibroulez.ErrOverLimit)
+	must(one.st.Discard(ctx, "a", "l"))(t)
+	must(0, one.giveBack("a"))(t)
+	must(0, two.take("a", "l", usage(80, 70)))(t)
+	must(0, w.operator.SetShards(ctx, "a", MostShards))(t)
+	equal(t, len(w.shards("a")), MostShards)
+	must(0, two.take("a", "m", usage(1, 1)))(t)
+	must(0, w.operator.SetShards(ctx, "a", 1))(t)
+	free := must(w.operator.Quota(ctx, "a"))(t).Free
+	equal(t, w.shards("a"), []Usage{free})
+	equal(t, plus(must(w.operator.Quota(ctx, "a"))(t).Granted, free), usage(102, 103))
+	equal(t, w.check()["limit"], 4)
+}
+
+// A lowering leaves a debt, which givings-back pay first: while there is one nothing is granted from any shard.
+func TestDebt(t *testing.T) {
+	t.Parallel()
+	w := newWorld(t)
+	w.limit("a", 100, 100)
+	must(0, w.operator.SetShards(ctx, "a", 2))(t)
+	small := func(c *Config) { c.Batch = usage(0, 1) }
+	one, two := w.node("one", small).settle(), w.node("two", small).settle()
+	for i, blocks := range []uint64{20, 30} {
+		must(0, one.take("a", fmt.Sprint(i), usage(blocks, 1)))(t)
+	}
+	must(0, two.take("a", "k", usage(40, 1)))(t)
+	equal(t, w.limit("a", 60, 100).Above, usage(30, 0))
+	equal(t, w.shards("a")[0].Blocks+w.shards("a")[1].Blocks, uint64(0))
+	must(one.st.Discard(ctx, "a", "0"))(t)
+	must(0, one.giveBack("a"))(t)
+	// 20 of 30 are paid, and the other store gets none of them. Inodes are had meanwhile.
+	equal(t, must(w.operator.Quota(ctx, "a"))(t).Above, usage(10, 0))
+	isError(t, two.take("a", "l", usage(1, 1)), pibroulez.ErrOverLimit)
+	must(0, two.Charge(ctx, "a", usage(0, 50), func(ctx context.Context) error {
+		_, err := two.st.Charge(ctx, "a", "k", usage(40, 51))
+		return err
+	}))(t)
+	must(one.st.Discard(ctx, "a", "1"))(t)
+	must(0, one.giveBack("a"))(t)
+	quota := must(w.operator.Quota(ctx, "a"))(t)
+	equal(t, []uint64{quota.Above.Blocks, quota.Free.Blocks, quota.Granted.Blocks}, []uint64{0, 20, 40})
+	must(0, two.take("a", "l", usage(20, 1)))(t)
+	isError(t, two.take("a", "m", usage(1, 1)), pibroulez.ErrOverLimit)
+	w.check()
+}
+
+// Stores at different shards lose no compare to each other, and read nothing again.
+func TestShardsDontHinder(t *testing.T) {
+	t.Parallel()
+	w := newWorld(t)
+	w.limit("a", 1000, 1000)
+	must(0, w.operator.SetShards(ctx, "a", 2))(t)
+	exact := func(c *Config) { c.Batch = usage(0, 1) }
+	nodes := []*node{w.node("one", exact).settle(), w.node("two", exact).settle()}
+	for _, n := range nodes {
+		until(t, "both to be known", func() bool { return n.stores.Load() == 2 })
+		must(0, n.take("a", "first", usage(1, 1)))(t)
+	}
+	equal(t, nodes[0].place.Load()+nodes[1].place.Load(), int64(1))
+	before := []Metrics{must(nodes[0].Metrics(ctx))(t), must(nodes[1].Metrics(ctx))(t)}
+	for i := 0; i < 10; i++ {
+		for _, n := range nodes {
+			// A busy machine's etcd may be late.
+			until(t, "room", func() bool {
+				err := n.take("a", fmt.Sprint(i), usage(3, 1))
+				if err != nil {
+					isError(t, err, EtcdAway)
+				}
+				return err == nil
+			})
+		}
+	}
+	for i, n := range nodes {
+		after := must(n.Metrics(ctx))(t)
+		equal(t, after.Raises, before[i].Raises+10)
+		if isAnswered := after.Unanswered == before[i].Unanswered; isAnswered {
+			equal(t, after.LostCompares, before[i].LostCompares)
+			equal(t, after.Reads, before[i].Reads)
+		}
+	}
+	w.check()
+}
