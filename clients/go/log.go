@@ -13,8 +13,8 @@ import (
 	"unicode/utf8"
 )
 
-// A BadLog is a file that is no log, or that can't be read as one, so that its store can't be had back. The file is as it
-// was. One of version 0.1.0 is one too: the README of clients says how it is taken over.
+// A BadLog is a file that is no log, or that can't be read as one, so that its store can't be opened again. The file
+// is as it was. One of version 0.1.0 is one too: the README of clients says how it is taken over.
 type BadLog struct {
 	Path string
 	// Line is the line's number, from 1, or 0 where it isn't that of a line.

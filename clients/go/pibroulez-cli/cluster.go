@@ -5,6 +5,7 @@ import (
 	"errors"
 	"flag"
 	"fmt"
+	"strconv"
 	"strings"
 	"time"
 
@@ -117,6 +118,26 @@ func clusterLimit(ctx context.Context, operator *cluster.Operator, given words) 
 	return it, nil
 }
 
+func clusterShards(ctx context.Context, operator *cluster.Operator, given words) (answer, error) {
+	shards, err := strconv.Atoi(given.rest[2])
+	if err != nil {
+		return answer{}, fmt.Errorf("%w: %q", cluster.ErrBadShards, given.rest[2])
+	}
+	return answer{value: map[string]any{"tenant": given.rest[1], "shards": shards}}, operator.SetShards(ctx, given.rest[1], shards)
+}
+
+func clusterRestored(ctx context.Context, operator *cluster.Operator, given words) (answer, error) {
+	return answer{value: map[string]bool{"open": false}}, operator.Restored(ctx)
+}
+
+func clusterReopen(ctx context.Context, operator *cluster.Operator, given words) (answer, error) {
+	err := operator.Reopen(ctx, cluster.Reopening{AllRegistered: given.areRegistered})
+	if errors.Is(err, cluster.ErrNotConfirmed) {
+		err = fmt.Errorf("%w: --all-registered says so", err)
+	}
+	return answer{value: map[string]bool{"open": true}}, err
+}
+
 func clusterNodes(ctx context.Context, operator *cluster.Operator, given words) (answer, error) {
 	members, err := operator.Nodes(ctx)
 	it := answer{value: membersOf(members), columns: []string{"NODE", "STORE", "STATE", ">TOLD", "GRANTED"}}
@@ -201,6 +222,7 @@ type tenantValue struct {
 	Granted pibroulez.Usage `json:"granted"`
 	Free    pibroulez.Usage `json:"free"`
 	Above   pibroulez.Usage `json:"above"`
+	Shards  int             `json:"shards"`
 	Nodes   []holdingValue  `json:"nodes"`
 }
 
@@ -215,7 +237,7 @@ type memberValue struct {
 func valuesOf(quotas []cluster.TenantQuota) []tenantValue {
 	values := []tenantValue{}
 	for _, it := range quotas {
-		value := tenantValue{it.Tenant, it.Limit, it.Granted, it.Free, it.Above, []holdingValue{}}
+		value := tenantValue{it.Tenant, it.Limit, it.Granted, it.Free, it.Above, it.Shards, []holdingValue{}}
 		for _, h := range it.Holdings {
 			value.Nodes = append(value.Nodes, holdingValue{h.Node, h.Store, h.Granted, h.Charged, h.Bound, h.Idle, h.Answers, seconds(h.Age)})
 		}

@@ -75,6 +75,30 @@ func TestCluster(t *testing.T) {
 	members := awaitTold(t, endpoint, func(it []memberValue) bool { return it[0].State == "answers" }, "nodes")
 	equal(t, members[0].Store, agent.Identity())
 
+	var divided []tenantValue
+	_, _, status = onEtcd(t, endpoint, nil, "shards", "a", "4")
+	equal(t, status, 0)
+	_, _, status = onEtcd(t, endpoint, &divided, "quota", "a", "--json")
+	if status != 0 || divided[0].Shards != 4 || divided[0].Free.Blocks != 100-divided[0].Granted.Blocks {
+		t.Errorf("%d: %+v", status, divided)
+	}
+	// As if etcd had been restored: the store registers.
+	_, _, status = onEtcd(t, endpoint, nil, "restored")
+	equal(t, status, 0)
+	_, errs, status := onEtcd(t, endpoint, nil, "reopen")
+	if status != failed || !strings.Contains(errs, "--all-registered says so") {
+		t.Errorf("%d: %s", status, errs)
+	}
+	for end := time.Now().Add(time.Minute); ; {
+		_, errs, status = onEtcd(t, endpoint, nil, "reopen", "--all-registered")
+		if status == 0 {
+			break
+		}
+		if !strings.Contains(errs, agent.Identity()) || time.Now().After(end) {
+			t.Fatalf("%d: %s", status, errs)
+		}
+	}
+
 	out, _, status = onEtcd(t, endpoint, nil, "limit", "a", "5/5")
 	if status != 0 || !strings.Contains(out, "are granted above the limit") {
 		t.Errorf("%d: %s", status, out)
@@ -86,7 +110,7 @@ func TestCluster(t *testing.T) {
 	equal(t, status, 0)
 	awaitTold(t, endpoint, func(it []memberValue) bool { return it[0].State == "answers" }, "nodes")
 
-	_, errs, status := onEtcd(t, endpoint, nil, "forget", agent.Identity())
+	_, errs, status = onEtcd(t, endpoint, nil, "forget", agent.Identity())
 	if status != failed || !strings.Contains(errs, "--data-destroyed says so") {
 		t.Errorf("%d: %s", status, errs)
 	}
@@ -128,6 +152,9 @@ func TestClusterFaults(t *testing.T) {
 		cluster.ErrNoNode.Error():   {"drain", "nobody"},
 		cluster.ErrNoStore.Error():  {"forget", "nobody", "--data-destroyed"},
 		cluster.ErrBadLimit.Error(): {"limit", "a", "1099511627777/1"},
+		cluster.ErrNoTenant.Error(): {"shards", "nobody", "2"},
+		`64: "x"`:                   {"shards", "a", "x"},
+		"from 1 to 64: 65":          {"shards", "a", "65"},
 		"no such file":              {"nodes", "--cacert", "/no/such/file"},
 	} {
 		if _, errs, status := onEtcd(t, endpoint, nil, args...); status != failed || !strings.Contains(errs, want) {

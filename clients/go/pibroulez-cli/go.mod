@@ -5,6 +5,7 @@ go 1.19
 require (
 	pibroulez.example/pibroulez v0.0.0
 	pibroulez.example/pibroulez/cluster v0.0.0
+	pibroulez.example/pibroulez/containerd v0.0.0
 	pibroulez.example/pibroulez/pibroulezd v0.0.0
 )
 

@@ -57,10 +57,15 @@ type house struct {
 
 func newHouse(t *testing.T) *house {
 	t.Helper()
+	return newHouseWith(t, map[string]pibroulez.Usage{"a": usage(100, 50), "b\n": usage(10, 10)})
+}
+
+func newHouseWith(t *testing.T, tenants map[string]pibroulez.Usage) *house {
+	t.Helper()
 	h := &house{socket: filepath.Join(t.TempDir(), "lines"), rights: door.Rights{IsOperator: true}}
 	var err error
 	h.store, err = pibroulez.New(ctx, pibroulez.Config{
-		Program: program(), Root: "/r", Namespaces: map[string]pibroulez.Usage{"a": usage(100, 50), "b\n": usage(10, 10)},
+		Program: program(), Root: "/r", Namespaces: tenants,
 	})
 	granted(t, err)
 	d := door.New(door.Config{
@@ -242,8 +247,8 @@ func TestRefusals(t *testing.T) {
 func TestHelp(t *testing.T) {
 	var out strings.Builder
 	equal(t, run(ctx, []string{"--help"}, &out, io.Discard), 0)
-	for name, it := range commands {
-		for _, word := range append([]string{"\n  " + name + " ", "--socket", "--json", "--version"}, it.options...) {
+	for _, it := range commands {
+		for _, word := range append([]string{"\n  " + it.name + " ", "--socket", "--json", "--version"}, it.options()...) {
 			if !strings.Contains(strings.ReplaceAll(out.String(), "check  ", "check "), word) {
 				t.Errorf("help without %q", word)
 			}
@@ -301,9 +306,9 @@ func TestManual(t *testing.T) {
 	text, err := os.ReadFile("pibroulez.1")
 	granted(t, err)
 	manual := strings.ReplaceAll(string(text), `\-`, "-")
-	words := regexp.MustCompile(`--[a-z-]+`).FindAllString(help, -1)
-	for name := range commands {
-		words = append(words, name)
+	words := regexp.MustCompile(`--[a-z-]+`).FindAllString(helpOf(), -1)
+	for _, it := range commands {
+		words = append(words, it.name)
 	}
 	for _, it := range words {
 		if !regexp.MustCompile(`(?m)^\.(B|BR|BI|RB) .*` + regexp.QuoteMeta(it)).MatchString(manual) {

@@ -79,13 +79,11 @@ func (n *node) ended() <-chan struct{} {
 
 func (n *node) end() error { return fmt.Errorf("%w: %v", errOutOfCluster, n.agent.Status().Err) }
 
-func (n *node) chargeOfContainerd() func(context.Context, func(context.Context) error) error {
+func (n *node) chargeOfContainerd() func(context.Context, string, pibroulez.Usage, func(context.Context) error) error {
 	if n == nil {
 		return nil
 	}
-	return func(ctx context.Context, call func(context.Context) error) error {
-		return n.agent.Charge(ctx, configuration.ContainerdNamespace, pibroulez.Usage{Blocks: 1, Inodes: 1}, call)
-	}
+	return n.agent.Charge
 }
 
 func (n *node) chargeOfLines() func(context.Context, string, pibroulez.Usage, func(context.Context) error) error {

@@ -3,7 +3,9 @@ package main
 import (
 	"context"
 	"fmt"
+	"os"
 	"path/filepath"
+	"strings"
 	"syscall"
 	"testing"
 	"time"
@@ -79,6 +81,44 @@ func TestContainerd(t *testing.T) {
 	}
 	granted(t, syscall.Kill(childOf(t, it.Process.Pid), syscall.SIGKILL))
 	equal(t, it.status(t), storeEnded)
+}
+
+// containerd's namespaces that are tenants have their limits: what one of them has no room for is refused, with its name and
+// what is free, and others go on. Nobody calls on them by lines but operators and quota services.
+func TestTenantsOfContainerd(t *testing.T) {
+	p := newPlace(t)
+	p.configure(t, p.containerd()+p.lines()+roles("operator")+"[tenants.a]\nblocks = 3\ninodes = 3\ncontainerd = true\n"+tenant("b", 100, 100))
+	it := p.start(t)
+	called := namespaces.WithNamespace(ctx, "test")
+	s, store := p.snapshotter(t), p.connect(t)
+	_, err := s.Prepare(called, "a/1/k", "", snapshots.WithLabels(map[string]string{containerd.ReserveLabel: "3/3"}))
+	granted(t, err)
+	_, err = s.Prepare(called, "b/1/k", "")
+	granted(t, err)
+	_, err = s.Prepare(called, "a/2/k", "")
+	if !errdefs.IsUnavailable(err) || !strings.Contains(err.Error(), `free 0 blocks, 0 inodes of tenant "a"`) {
+		t.Errorf("%v", err)
+	}
+	info, err := s.Stat(called, "b/1/k")
+	granted(t, err)
+	mounts, err := s.Mounts(called, "a/1/k")
+	granted(t, err)
+	granted(t, os.WriteFile(filepath.Join(mounts[0].Source, "f"), make([]byte, 4096), 0o600))
+	granted(t, s.Commit(called, "a/3/base", "a/1/k"))
+	usage, err := s.Usage(called, "a/3/base")
+	granted(t, err)
+	equal(t, usage, snapshots.Usage{Size: 2 * 4096, Inodes: 2})
+	for namespace, want := range map[string]int{"a": 1, "b": 0, containerd.Namespace: 1} {
+		nodes, err := store.Tree(ctx, namespace)
+		granted(t, err)
+		equal(t, len(nodes), want)
+	}
+	granted(t, s.Remove(called, info.Name))
+	it.end(t)
+	it = p.start(t)
+	_, err = p.snapshotter(t).Stat(called, "a/3/base")
+	granted(t, err)
+	it.end(t)
 }
 
 // A store that isn't that of the directories isn't served.

@@ -8,6 +8,7 @@ import (
 	"sync"
 	"time"
 
+	"pibroulez.example/pibroulez"
 	"pibroulez.example/pibroulez/containerd"
 	"pibroulez.example/pibroulez/containerd/service"
 	"pibroulez.example/pibroulez/pibroulezd/configuration"
@@ -37,14 +38,14 @@ func (d *daemon) openDoors(ctx context.Context) error {
 		}
 		d.log.WithField("store", d.node.agent.Identity()).WithField("node", c.Cluster.Node).Info("cluster")
 	}
+	if c.Watch != nil {
+		// It counts what the others do.
+		d.watch = watch.New(watch.Config{Store: d.store, Counts: d.counts, Metrics: d.node.metrics()})
+	}
 	if c.Containerd != nil {
 		if err := d.openContainerd(ctx, c); err != nil {
 			return err
 		}
-	}
-	if c.Watch != nil {
-		// It counts what the others do.
-		d.watch = watch.New(watch.Config{Store: d.store, Counts: d.counts, Metrics: d.node.metrics()})
 	}
 	if c.Lines != nil {
 		if err := d.openLines(c); err != nil {
@@ -88,16 +89,29 @@ func (d *daemon) observe(do string, took time.Duration) {
 	}
 }
 
+// Takes note of how long a call of containerd took, where somebody watches.
+func (d *daemon) observeCall(call string, took time.Duration) {
+	if d.watch != nil {
+		d.watch.ObserveCall(call, took)
+	}
+}
+
 func (d *daemon) openContainerd(ctx context.Context, c *configuration.Configuration) error {
 	var err error
-	if d.snapshotter, err = containerd.New(ctx, containerd.Config{Root: c.Root, Store: d.store, Charge: d.node.chargeOfContainerd()}); err != nil {
+	config := containerd.Config{Root: c.Root, Store: d.store, Tenants: map[string]pibroulez.Usage{}, Charge: d.node.chargeOfContainerd()}
+	for name, tenant := range c.Tenants {
+		if tenant.IsContainerds {
+			config.Tenants[name] = tenant.Limit
+		}
+	}
+	if d.snapshotter, err = containerd.New(ctx, config); err != nil {
 		return fmt.Errorf("no snapshotter of %s: %w", c.Root, err)
 	}
 	listener, err := socket.Listen(c.Containerd.Socket, containerdMode, openFolderMode)
 	if err != nil {
 		return err
 	}
-	d.snapshots = service.New(d.snapshotter)
+	d.snapshots = service.New(d.snapshotter, d.observeCall)
 	d.log.WithField("socket", c.Containerd.Socket).Info("containerd")
 	go d.end(func() error { return d.snapshots.Serve(listener) })
 	return nil

@@ -9,6 +9,9 @@ import (
 	"strings"
 	"testing"
 
+	"github.com/containerd/containerd/errdefs"
+	"github.com/containerd/containerd/namespaces"
+
 	"pibroulez.example/pibroulez"
 )
 
@@ -37,11 +40,15 @@ func TestWatch(t *testing.T) {
 	granted(t, err)
 	_, err = store.Prepare(ctx, "a", "<k>", "")
 	isError(t, err, pibroulez.ErrAlreadyExists)
+	_, err = p.snapshotter(t).Stat(namespaces.WithNamespace(ctx, "test"), "none")
+	if !errdefs.IsNotFound(err) {
+		t.Error(err)
+	}
 	metrics := p.get(t, "/metrics")
 	for _, want := range []string{
 		`pibroulez_snapshots{kind="Active",tenant="a"} 1`, `pibroulez_snapshots{kind="Active",tenant="containerd"} 0`,
 		`pibroulez_line_refusals_total{refusal="AlreadyExists"} 1`, `pibroulez_line_seconds_count{do="prepare"} 2`,
-		"pibroulez_lines_total 2", "pibroulez_connections 1",
+		"pibroulez_lines_total 2", `pibroulez_containerd_seconds_count{call="Stat"} 1`, "pibroulez_connections 1",
 	} {
 		if !strings.Contains(metrics, want) {
 			t.Errorf("no %s in %s", want, metrics)

@@ -102,6 +102,9 @@ type Tenant struct {
 	Limit pibroulez.Usage
 	// Members may call on the namespace.
 	Members Members
+	// IsContainerds says that its snapshots are those of containerd's namespace of this name, with which nobody else has to
+	// do: it has no members.
+	IsContainerds bool
 }
 
 // Members are users and groups, by their numbers.
@@ -203,7 +206,7 @@ func (r *reader) configuration(t *table) *Configuration {
 		Program:     t.text("program", "snap_replay"),
 		Journal:     t.number("journal", mostJournal, leastJournal, mostJournal),
 		Slots:       t.number("slots", mostSlots, 1, mostSlots),
-		LayerInodes: t.number("layer_inodes", 1<<16, 1, mostInodes),
+		LayerInodes: t.number("layer_inodes", mostInodes, 1, mostInodes),
 		Tenants:     map[string]Tenant{},
 	}
 	if c.Root == "" && !t.has("root") {
@@ -238,7 +241,10 @@ func (r *reader) configuration(t *table) *Configuration {
 func (c *Configuration) readTenants(t *table) {
 	tenants, most := t.table("tenants"), mostTenants
 	for _, name := range tenants.keys() {
-		c.Tenants[name] = tenants.tenant(name, c.Cluster != nil)
+		it := tenants.tenant(name, c.Cluster != nil)
+		if c.Tenants[name] = it; it.IsContainerds && !t.has("containerd") {
+			tenants.fault(name, "its snapshots are containerd's, and there is no door for containerd")
+		}
 	}
 	if t.has("containerd") {
 		if tenants.has(ContainerdNamespace) {
@@ -338,7 +344,14 @@ func (t *table) tenant(name string, isOfCluster bool) Tenant {
 	}
 	it := t.table(name)
 	limit := pibroulez.Usage{Blocks: it.limit("blocks", isOfCluster), Inodes: it.limit("inodes", isOfCluster)}
-	return Tenant{limit, members(it)}
+	isContainerds := it.flag("containerd")
+	if isContainerds && (it.has("users") || it.has("groups")) {
+		t.fault(name, "its snapshots are containerd's, so it has no users and no groups")
+	}
+	if isContainerds && strings.Contains(name, "/") {
+		t.fault(name, "no namespace of containerd has a / in its name")
+	}
+	return Tenant{limit, members(it), isContainerds}
 }
 
 // The members that a table names, which has no other key than those that were asked for.

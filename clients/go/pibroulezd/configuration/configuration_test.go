@@ -70,8 +70,8 @@ func TestWhole(t *testing.T) {
 		Operators: Members{map[uint32]bool{0: true, 7: true}, none},
 		Quotas:    Members{none, map[uint32]bool{0: true, 8: true}},
 		Tenants: map[string]Tenant{
-			"a":     {pibroulez.Usage{Blocks: 100, Inodes: 50}, Members{map[uint32]bool{1000: true}, none}},
-			"b/c d": {pibroulez.Usage{Blocks: 1 << 40}, Members{none, map[uint32]bool{1001: true}}},
+			"a":     {Limit: pibroulez.Usage{Blocks: 100, Inodes: 50}, Members: Members{map[uint32]bool{1000: true}, none}},
+			"b/c d": {Limit: pibroulez.Usage{Blocks: 1 << 40}, Members: Members{none, map[uint32]bool{1001: true}}},
 		},
 	})
 }
@@ -82,7 +82,7 @@ func TestLeftOut(t *testing.T) {
 	granted(t, err)
 	members := Members{map[uint32]bool{}, map[uint32]bool{}}
 	equal(t, *c, Configuration{
-		Root: "/r", Program: "snap_replay", Log: "/r/calls.jsonl", Journal: 1048576, Slots: 4096, LayerInodes: 65536,
+		Root: "/r", Program: "snap_replay", Log: "/r/calls.jsonl", Journal: 1048576, Slots: 4096, LayerInodes: 16777216,
 		Tenants: map[string]Tenant{}, Operators: members, Quotas: members,
 	})
 	c, err = parse("p", []byte("root = \"/r\"\n[lines]"))
@@ -134,6 +134,10 @@ func TestFaults(t *testing.T) {
 		{"root = \"/r\"\n[containerd]\nblocks = -1", "p:3: containerd.blocks: a number from 0 to 1099511627776 is wanted"},
 		{"root = \"/r\"\n[containerd]\nusers = [1]", "p:3: containerd.users: no such key"},
 		{"root = \"/r\"\n[containerd]\n[tenants.containerd]\nblocks = 1\ninodes = 1", "p:3: tenants.containerd: the door for containerd has this namespace"},
+		{"root = \"/r\"\n[tenants.a]\nblocks = 1\ninodes = 1\ncontainerd = true", "p:2: tenants.a: its snapshots are containerd's, and there is no door"},
+		{"root = \"/r\"\n[containerd]\n[tenants.a]\nblocks = 1\ninodes = 1\ncontainerd = true\nusers = [1]", "p:3: tenants.a: its snapshots are containerd's, so it has no users"},
+		{"root = \"/r\"\n[containerd]\n[tenants.a]\nblocks = 1\ninodes = 1\ncontainerd = 1", "p:6: tenants.a.containerd: true or false is wanted, another number is there"},
+		{"root = \"/r\"\n[containerd]\n[tenants.\"a/b\"]\nblocks = 1\ninodes = 1\ncontainerd = true", "p:3: tenants.\"a/b\": no namespace of containerd has a /"},
 		{"root = \"/r\"\n[watch]\naddress = \"0.0.0.0:80\"", "p:3: watch.address: unix: and a path, or an address of this machine"},
 		{"root = \"/r\"\n[watch]\naddress = \"localhost:80\"", "p:3: watch.address: unix: and a path, or an address of this machine"},
 		{"root = \"/r\"\n[watch]\naddress = \"unix:x\"", "p:3: watch.address: after unix: a path from / on"},
@@ -288,7 +292,7 @@ func TestCluster(t *testing.T) {
 		t.Errorf("%v", refused)
 	}
 	equal(t, next.Cluster, c.Cluster)
-	equal(t, next.Tenants["b"], Tenant{pibroulez.Usage{Blocks: 5, Inodes: 1 << 40}, Members{map[uint32]bool{3: true}, map[uint32]bool{}}})
+	equal(t, next.Tenants["b"], Tenant{Limit: pibroulez.Usage{Blocks: 5, Inodes: 1 << 40}, Members: Members{map[uint32]bool{3: true}, map[uint32]bool{}}})
 }
 
 func TestWatch(t *testing.T) {
@@ -330,6 +334,29 @@ func TestContainerd(t *testing.T) {
 		equal(t, next.Containerd, old.Containerd)
 		equal(t, next.Tenants, old.Tenants)
 	}
+}
+
+// A tenant of containerd stays one, and its limit may change.
+func TestTenantsOfContainerd(t *testing.T) {
+	read := func(rest string) *Configuration {
+		t.Helper()
+		c, err := parse("p", []byte("root = \"/r\"\n[containerd]\n[tenants.a]\nblocks = 1\n"+rest))
+		granted(t, err)
+		return c
+	}
+	old := read("inodes = 2\ncontainerd = true")
+	equal(t, old.Tenants["a"].IsContainerds, true)
+	next, refused := old.Next("p", read("inodes = 3\ncontainerd = true"))
+	equal(t, len(refused), 0)
+	equal(t, next.Tenants["a"].Limit, pibroulez.Usage{Blocks: 1, Inodes: 3})
+	next, refused = old.Next("p", read("inodes = 2\nusers = [1]"))
+	if len(refused) != 1 || refused[0].Key != "tenants.a" {
+		t.Errorf("%v", refused)
+	}
+	equal(t, next.Tenants["a"], Tenant{Limit: pibroulez.Usage{Blocks: 1, Inodes: 2}, IsContainerds: true})
+	next, refused = read("inodes = 2\nusers = [1]").Next("p", old)
+	equal(t, len(refused), 1)
+	equal(t, next.Tenants["a"], Tenant{Limit: pibroulez.Usage{Blocks: 1, Inodes: 2}})
 }
 
 // Each key that README has is known.

@@ -30,6 +30,11 @@ func (c *Configuration) Next(path string, read *Configuration) (*Configuration, 
 			refuse("tenants."+told(name), "a tenant stays as long as its store: it keeps its limit, and has no members")
 			now = Tenant{Limit: tenant.Limit}
 		}
+		if isThere && now.IsContainerds != tenant.IsContainerds {
+			refuse("tenants."+told(name), "whose its snapshots are can't change while the daemon runs: it stays, and the tenant has no members")
+			now.Members = Members{}
+		}
+		now.IsContainerds = tenant.IsContainerds
 		if c.Cluster != nil && now.Limit != tenant.Limit {
 			refuse("tenants."+told(name), "in a cluster a node's own limit can't change while the daemon runs: "+tenant.Limit.String()+" stays")
 			now.Limit = tenant.Limit

@@ -124,6 +124,17 @@ func (t *table) text(key, otherwise string) string {
 	}
 }
 
+func (t *table) flag(key string) bool {
+	switch it := t.value(key).(type) {
+	case nil:
+	case bool:
+		return it
+	default:
+		t.wrong(key, "true or false", it)
+	}
+	return false
+}
+
 // An absolute path, as it is told by the shortest text.
 func (t *table) path(key, otherwise string) string {
 	it := t.text(key, otherwise)

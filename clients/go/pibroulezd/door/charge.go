@@ -28,6 +28,7 @@ func (o *OverLimit) text() []byte {
 var charges = setOf(
 	"prepare", "charge",
 	"mkdir", "create", "put", "write", "truncate", "setmode", "symlink", "link", "rename", "unlink", "rmdir", "opaque", "whiteout",
+	"batch",
 )
 
 // Carries out a line that may charge, to its end: one that is made again for more room mustn't come after those behind it.
@@ -104,7 +105,7 @@ func (c *connection) needOf(line pibroulez.Line) pibroulez.Usage {
 	switch line.Do {
 	case "prepare":
 		return pibroulez.Usage{Blocks: 1, Inodes: 1}
-	case "charge":
+	case "charge", "batch":
 		return fields.Need
 	case "mkdir", "opaque":
 		need.Blocks++

@@ -121,6 +121,7 @@ func TestNeeds(t *testing.T) {
 	for line, want := range map[string]string{
 		`{"do":"prepare"}`:                                               "1/1",
 		`{"do":"charge","need":[5,7]}`:                                   "5/7",
+		`{"do":"batch","need":[5,7],"ops":[]}`:                           "5/7",
 		`{"do":"mkdir","path":"/a/b"}`:                                   "2/2",
 		`{"do":"create","path":"/a/b/c"}`:                                "2/3",
 		`{"do":"put","path":"/a","size":4097}`:                           "2/1",

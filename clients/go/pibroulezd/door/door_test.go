@@ -149,7 +149,7 @@ func (h *house) talk(t *testing.T) *talk {
 	socket, err := net.DialUnix("unix", nil, &net.UnixAddr{Name: h.path, Net: "unix"})
 	granted(t, err)
 	t.Cleanup(func() { socket.Close() })
-	granted(t, socket.SetDeadline(time.Now().Add(time.Minute)))
+	granted(t, socket.SetDeadline(time.Now().Add(5*time.Minute)))
 	return &talk{t, socket, bufio.NewReader(socket)}
 }
 
@@ -434,6 +434,45 @@ func TestPeersThatNeverRead(t *testing.T) {
 	for _, it := range peers {
 		it.Close()
 	}
+	equal(t, k.ask(`{"do":"quota","ns":"x"}`), `{"error":"NoNamespace","from":"book"}`)
+}
+
+// Peers that flood the door as fast as they read hold nobody up: with lines that are no command, too long, refused, questions, or
+// changes.
+func TestFloods(t *testing.T) {
+	h := newHouse(t, func(c *Config) { c.LineBytes = 1 << 16 })
+	k := h.talk(t)
+	equal(t, k.ask(`{"do":"prepare","ns":"a","key":"k","parent":""}`), `{"chain":[],"id":1,"slot":0}`)
+	var peers []*talk
+	var flooding sync.WaitGroup
+	for _, line := range []string{
+		"x", strings.Repeat("x", 1<<17), `{"do":"prepare","ns":"none","key":"k","parent":""}`, `{"do":"tree","ns":"a"}`,
+		`{"do":"put","ns":"a","key":"k","path":"/f","size":1}`, `{"do":"setmode","ns":"a","key":"k","path":"/","mode":448}`,
+	} {
+		it, text := h.talk(t), strings.Repeat(line+"\n", 1+1000/len(line))
+		peers = append(peers, it)
+		flooding.Add(2)
+		go func() {
+			defer flooding.Done()
+			for {
+				if _, err := io.WriteString(it, text); err != nil {
+					return
+				}
+			}
+		}()
+		go func() {
+			defer flooding.Done()
+			io.Copy(io.Discard, it)
+		}()
+	}
+	for round := 0; round < 10; round++ {
+		equal(t, k.ask(`{"do":"charge","ns":"a","key":"k","need":[3,3],"id":1}`), `{"answer":{"share":[3,3]},"id":1}`)
+		equal(t, k.ask(`{"do":"quota","ns":"x"}`), `{"error":"NoNamespace","from":"book"}`)
+	}
+	for _, it := range peers {
+		it.Close()
+	}
+	flooding.Wait()
 	equal(t, k.ask(`{"do":"quota","ns":"x"}`), `{"error":"NoNamespace","from":"book"}`)
 }
 

@@ -37,6 +37,7 @@ var isTenants = setOf(
 	"prepare", "view", "remove", "stat", "update", "usage", "mounts", "walk", "charge", "trim", "commit", "discard",
 	"lease_create", "lease_add", "lease_drop", "lease_release", "sweep",
 	"mkdir", "create", "put", "write", "truncate", "setmode", "symlink", "link", "rename", "unlink", "rmdir", "opaque", "whiteout",
+	"batch",
 	"look", "list", "read", "resolve", "du", "quota", "leases", "tree", "diff", "journal",
 )
 
@@ -45,6 +46,7 @@ var isShort = setOf(
 	"session", "reopen", "roll", "prepare", "view", "remove", "usage", "charge", "trim", "commit", "discard",
 	"lease_create", "lease_add", "lease_drop", "lease_release", "limit",
 	"mkdir", "create", "put", "write", "truncate", "setmode", "symlink", "link", "rename", "unlink", "rmdir", "opaque", "whiteout",
+	"batch",
 	"du",
 )
 

@@ -49,6 +49,7 @@ var commands = []struct {
 	{`{"do":"sweep","ns":"NS","now":0}`, false, true},
 	{`{"do":"sweep","ns":"NS","now":0,"try":false}`, false, true},
 	{`{"do":"sweep","ns":"NS","now":0,"try":true}`, true, true},
+	{`{"do":"batch","ns":"NS","key":"k","need":[9,9],"ops":[{"do":"mkdir","path":"/new"}]}`, false, true},
 	{`{"do":"mkdir","ns":"NS","key":"k","path":"/new"}`, false, true},
 	{`{"do":"create","ns":"NS","key":"k","path":"/new"}`, false, true},
 	{`{"do":"put","ns":"NS","key":"k","path":"/new","size":5}`, false, true},
@@ -141,6 +142,24 @@ func TestRoles(t *testing.T) {
 		asking(Rights{IsOperator: true}, in("a", it.line), true)
 	}
 	equal(t, h.Counts().Refusals[pibroulez.ErrNotAllowed], uint64(refused))
+}
+
+// Each command that the door knows is in the table.
+func TestAllCommandsHaveRoles(t *testing.T) {
+	isThere := map[string]bool{}
+	for _, it := range commands {
+		line := pibroulez.Line{Members: map[string]json.RawMessage{}}
+		granted(t, json.Unmarshal([]byte(it.line), &line.Members))
+		granted(t, json.Unmarshal(line.Members["do"], &line.Do))
+		isThere[line.Do] = true
+	}
+	for _, words := range []map[string]bool{isTenants, isShort, {"report": true}} {
+		for it := range words {
+			if !isThere[it] {
+				t.Errorf("no row of %q", it)
+			}
+		}
+	}
 }
 
 // Whatever a tenant sends, another tenant's namespace stays as it is, and so do all limits and the round.

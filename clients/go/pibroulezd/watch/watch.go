@@ -36,6 +36,7 @@ type Watch struct {
 	config   Config
 	registry *prometheus.Registry
 	took     *prometheus.HistogramVec
+	calls    *prometheus.HistogramVec
 	server   http.Server
 	turn     chan struct{}
 }
@@ -43,11 +44,9 @@ type Watch struct {
 // New makes a watch, which Serve has answer.
 func New(config Config) *Watch {
 	w := &Watch{config: config, registry: prometheus.NewRegistry(), turn: make(chan struct{}, mostAtOnce)}
-	w.took = prometheus.NewHistogramVec(prometheus.HistogramOpts{
-		Name: "pibroulez_line_seconds", Help: "How long a line of the door took from when it was sent to its answer.",
-		Buckets: prometheus.ExponentialBuckets(0.0001, 4, 9),
-	}, []string{"do"})
-	w.registry.MustRegister(w.took, &collector{config})
+	w.took = histogram("line", "How long a line of the door took from when it was sent to its answer.", "do")
+	w.calls = histogram("containerd", "How long a call of containerd took.", "call")
+	w.registry.MustRegister(w.took, w.calls, &collector{config})
 	w.registry.MustRegister(config.Metrics...)
 	metrics := promhttp.HandlerFor(w.registry, promhttp.HandlerOpts{ErrorHandling: promhttp.HTTPErrorOnError})
 	pages := http.NewServeMux()
@@ -59,6 +58,18 @@ func New(config Config) *Watch {
 		IdleTimeout: time.Minute, MaxHeaderBytes: 1 << 14,
 	}
 	return w
+}
+
+// A histogram of seconds, from a tenth of a millisecond to some seven seconds.
+func histogram(name, help, label string) *prometheus.HistogramVec {
+	return prometheus.NewHistogramVec(prometheus.HistogramOpts{
+		Name: "pibroulez_" + name + "_seconds", Help: help, Buckets: prometheus.ExponentialBuckets(0.0001, 4, 9),
+	}, []string{label})
+}
+
+// ObserveCall takes note of how long a call of containerd took, by its name in the service.
+func (w *Watch) ObserveCall(call string, took time.Duration) {
+	w.calls.WithLabelValues(call).Observe(took.Seconds())
 }
 
 // Observe takes note of how long a line took.

@@ -128,6 +128,7 @@ func TestMetrics(t *testing.T) {
 	granted(t, err)
 	s.Observe("prepare", 3*time.Millisecond)
 	s.Observe("no such command", time.Second)
+	s.ObserveCall("Prepare", time.Minute)
 	report, err := s.store.Report(ctx)
 	granted(t, err)
 	text := s.get(t, "/metrics")
@@ -141,7 +142,9 @@ func TestMetrics(t *testing.T) {
 		`pibroulez_snapshots{kind="View",tenant="a"} 0`, fmt.Sprintf("pibroulez_journal_entries %d", report.Entries),
 		`pibroulez_connections 2`, `pibroulez_lines_total 7`, `pibroulez_line_faults_total 1`,
 		`pibroulez_line_refusals_total{refusal="NotAllowed"} 3`, `pibroulez_line_seconds_count{do="prepare"} 1`,
-		`pibroulez_line_seconds_count{do="other"} 1`, `tenant="</a><script>x</script>\"\n\\"`,
+		`pibroulez_line_seconds_count{do="other"} 1`, `pibroulez_line_seconds_bucket{do="prepare",le="0.0064"} 1`,
+		`pibroulez_containerd_seconds_count{call="Prepare"} 1`, `pibroulez_containerd_seconds_bucket{call="Prepare",le="+Inf"} 1`,
+		`pibroulez_containerd_seconds_sum{call="Prepare"} 60`, `tenant="</a><script>x</script>\"\n\\"`,
 	} {
 		if !strings.Contains(text, want) {
 			t.Errorf("no %s in %s", want, text)

@@ -1,0 +1,104 @@
+"""What is in the programs of a release, as a bill of materials of CycloneDX 1.5 (ECMA-424)."""
+from __future__ import annotations
+
+import hashlib
+import json
+import os
+import re
+import tempfile
+import uuid
+from datetime import datetime, timezone
+from pathlib import Path
+from typing import Any, Dict, Iterable, List
+
+import parts
+from parts import GO, GO_LIBRARIES, GO_MODULE, GO_PROGRAMS, TOP
+
+LICENSE = [{"license": {"id": "Apache-2.0"}}]
+
+
+def crates() -> Dict[str, List[str]]:
+    """Each crate of the product, and the libraries that it stands on, as crates.txt has them."""
+    found = {}
+    for line in (TOP / "crates.txt").read_text(encoding="utf-8").splitlines():
+        name, _, below = line.partition("#")[0].partition(":")
+        if name.startswith("snap_"):
+            found[name.split()[0]] = below.split()
+    return found
+
+
+def go_folders(package: str) -> List[str]:
+    """The folders of the libraries that a program in Go is built over, but for Go's own and ours."""
+    with tempfile.TemporaryDirectory() as work:
+        place = Path(work, "src", GO_MODULE)
+        place.parent.mkdir(parents=True)
+        place.symlink_to(GO)
+        environment = {
+            **os.environ, "GO111MODULE": "off", "GOFLAGS": "", "GOPATH": f"{work}:{GO_LIBRARIES}", "CGO_ENABLED": "0",
+        }
+        words = ["go", "list", "-deps", "-f", "{{if not .Standard}}{{.Dir}}{{end}}", package]
+        told = parts.run(words, environment=environment).split()
+    return sorted(it for it in told if it.startswith(GO_LIBRARIES))
+
+
+def debian_packages(folders: Iterable[str]) -> Dict[str, str]:
+    """The packages of Debian that have these folders, with their versions."""
+    names = set()
+    for line in parts.run(["dpkg", "--search", *folders]).splitlines():
+        owners, _, _ = line.partition(": ")
+        names |= {it.split(":")[0].strip() for it in owners.split(",")}
+    told = parts.run(["dpkg-query", "--show", "--showformat=${Package} ${Version}\n", *sorted(names)])
+    return dict(line.split() for line in told.splitlines())
+
+
+def library(name: str, version: str, **more: Any) -> Dict[str, Any]:
+    """A component that is a library."""
+    return {"type": "library", "name": name, "version": version, "bom-ref": f"{name}@{version}", **more}
+
+
+def of_crates(version: str, kit: str) -> List[Dict[str, Any]]:
+    """The components of the proved program: its crates, and the kit's libraries."""
+    table = crates()
+    ours = [library(name, version, licenses=LICENSE) for name in sorted(table)]
+    theirs = sorted({it for below in table.values() for it in below} - set(table))
+    return ours + [library(name, kit, description="a library of the toolchain") for name in theirs]
+
+
+def of_go() -> tuple[List[Dict[str, Any]], Dict[str, List[str]]]:
+    """The components of the programs in Go, and those of each program by their references."""
+    version = re.sub(r"^go version go(\S+) .*$", r"\1", parts.run(["go", "version"]).strip())
+    found = {"go": library("go", version, description="the standard library of Go")}
+    uses = {}
+    for name, source in GO_PROGRAMS.items():
+        packages = debian_packages(go_folders(f"{GO_MODULE}/{source}"))
+        for package, number in packages.items():
+            purl = f"pkg:deb/debian/{package}@{number}"
+            found[package] = library(package, number, purl=purl)
+        uses[name] = sorted(found[it]["bom-ref"] for it in ["go", *packages])
+    return [found[name] for name in sorted(found)], uses
+
+
+def text(files: Dict[str, bytes], kit: str) -> bytes:
+    """The bill of the files of an archive, by their paths."""
+    version = parts.version()
+    product = {"type": "application", "name": "pibroulez", "version": version, "bom-ref": f"pibroulez@{version}", "licenses": LICENSE}
+    components = of_crates(version, kit)
+    depends = [{"ref": "snap_replay", "dependsOn": [it["bom-ref"] for it in components]}]
+    more, uses = of_go()
+    for name, refs in uses.items():
+        depends.append({"ref": name, "dependsOn": refs})
+    programs = []
+    for path, content in sorted(files.items()):
+        name = path.removeprefix("bin/")
+        if name != path:
+            digest = {"alg": "SHA-256", "content": hashlib.sha256(content).hexdigest()}
+            programs.append({"type": "application", "name": name, "version": version, "bom-ref": name, "licenses": LICENSE, "hashes": [digest]})
+    depends.append({"ref": product["bom-ref"], "dependsOn": [it["bom-ref"] for it in programs]})
+    when = datetime.fromtimestamp(parts.moment(), timezone.utc).strftime("%Y-%m-%dT%H:%M:%SZ")
+    bill = {
+        "bomFormat": "CycloneDX", "specVersion": "1.5", "version": 1, "metadata": {"timestamp": when, "component": product},
+        "components": [*programs, *components, *more], "dependencies": sorted(depends, key=lambda it: it["ref"]),
+    }
+    # The same bill has the same number.
+    bill["serialNumber"] = f"urn:uuid:{uuid.uuid5(uuid.NAMESPACE_OID, json.dumps(bill, sort_keys=True))}"
+    return json.dumps(bill, indent=1, sort_keys=True).encode() + b"\n"
