@@ -41,9 +41,9 @@ Settings = Mapping[str, Any]
 
 def package() -> Iterator[Tuple[str, bytes]]:
     """Each file of the package, by its path."""
-    for path in sorted((HERE / "pibroulez").iterdir()):
+    for path in sorted((HERE / "pibroulez").rglob("*")):
         if path.suffix in (".py", ".typed"):
-            yield f"pibroulez/{path.name}", path.read_bytes()
+            yield str(path.relative_to(HERE)), path.read_bytes()
 
 
 def build_wheel(

@@ -19,6 +19,7 @@ from typing import Callable, Type
 import example
 import pibroulez
 from pibroulez import (
+    Batched,
     Change,
     Changed,
     Committed,
@@ -32,6 +33,7 @@ from pibroulez import (
     Lease,
     Mount,
     Node,
+    OperationRefused,
     Part,
     Prepared,
     Quota,
@@ -244,6 +246,37 @@ class Commands(unittest.TestCase):
             store.stat("a", "k", entry=True)
         store.roll()
         self.assertEqual(store.stat("a", "k").created, 35)
+
+    def test_batch(self) -> None:
+        """The third and fourth answers of `examples/files/batch`, and a charge of 6/5 with 5/4 in the limit."""
+        with open_store(5, 4) as store:
+            store.prepare("a", "k", "")
+            made = [
+                {"do": "mkdir", "path": "/d"},
+                {"do": "create", "path": "/d/f"},
+                {"do": "write", "path": "/d/f", "fill": (120, 5000)},
+            ]
+            self.assertEqual(store.batch("a", "k", (5, 4), made), Batched(3, Usage(4, 3), Usage(5, 4)))
+            with self.assertRaises(OperationRefused) as refused:
+                store.batch("a", "k", (5, 4), [{"do": "symlink", "path": "/l", "target": "d"}, made[0], made[0]])
+            self.assertEqual(refused.exception.number, 2)
+            self.assertIs(type(refused.exception.why), pibroulez.Exists)
+            self.assertEqual(refused.exception.batch, Batched(1, Usage(4, 4), Usage(5, 4)))
+            with self.assertRaises(pibroulez.OverLimit):
+                store.batch("a", "k", (6, 5), made)
+            with self.assertRaises(Fault):
+                store.batch("a", "k", (5, 4), [{"do": "mkdir", "path": "d"}])
+            self.assertEqual(store.listdir("a", "k", "/"), ("d", "l"))
+
+    def test_full_journal_in_a_batch(self) -> None:
+        """It is not made once more in the next round, since a part of it is done. The journal has room for the session, the
+        prepare, the charge of the batch and the discard."""
+        with open_store(journal=4, roll_when_full=True) as store:
+            store.prepare("a", "k", "")
+            with self.assertRaises(OperationRefused) as refused:
+                store.batch("a", "k", (2, 2), [{"do": "mkdir", "path": "/d"}, {"do": "mkdir", "path": "/e"}])
+            self.assertIs(type(refused.exception.why), pibroulez.JournalFull)
+            self.assertEqual(store.listdir("a", "k", "/"), ("d",))
 
     def test_texts(self) -> None:
         """Texts beyond ASCII, and those that JSON escapes, come back as they were given. Others aren't sent."""
@@ -476,6 +509,7 @@ class Errors(unittest.TestCase):
         others = {
             pibroulez.BadArgument: ("BadArgument", "book", "slots"),
             pibroulez.OverLimit: ("OverLimit", "book", Usage(3, 1)),
+            OperationRefused: (2, Refused("Exists", "file"), Batched(1, Usage(2, 2), Usage(3, 3))),
             Fault: ("too long", 2),
             pibroulez.ReservedField: ("id",),
             pibroulez.Died: (4, "want of memory"),

@@ -6,8 +6,8 @@ from collections import deque
 from concurrent.futures import Future, ThreadPoolExecutor
 from typing import BinaryIO
 
-from images.bounds import Bounds, Unreadable
 from images.documents import Blob
+from pibroulez.images.bounds import Bounds, Unreadable
 
 # What waits for a digest, in reads.
 MOST_WAITING = 8

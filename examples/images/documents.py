@@ -7,7 +7,7 @@ from collections import deque
 from dataclasses import dataclass
 from typing import NoReturn, Protocol, TypeVar
 
-from images.bounds import MOST_LAYERS, Unreadable
+from pibroulez.images.bounds import MOST_LAYERS, Unreadable
 
 # Algorithms of digests (OCI image specification, "Registered Algorithms").
 DIGEST = re.compile(r"sha256:[0-9a-f]{64}|sha512:[0-9a-f]{128}")

@@ -5,16 +5,16 @@ import json
 import sys
 import tempfile
 from collections import Counter
-from collections.abc import Callable, Iterable, Iterator
+from collections.abc import Iterator
 from dataclasses import dataclass
 from itertools import islice
-from typing import NamedTuple, TextIO, TypeVar
+from typing import NamedTuple, TextIO
 
-from images.bounds import Bounds
-from images.entries import WHITEOUT, Entry, clean
 from images.sources import Layer
-from images.tree import LeftOut, Tree, name_reason, reason, text_of
-from images.ways import Ways
+from pibroulez.images.batches import grouped
+from pibroulez.images.bounds import Bounds
+from pibroulez.images.tree import Tree, text_of
+from pibroulez.images.unpack import unpack
 
 # The most inodes of a layer that a store can be opened with.
 MOST_INODES = 1 << 24
@@ -22,79 +22,6 @@ MOST_ANCESTORS = 64
 MOST_LINE_BYTES = 1 << 24
 # Of what is told of a source, in letters.
 MOST_TOLD = 1000
-
-T = TypeVar("T")
-
-
-def unpack(tree: Tree, layer: Layer, left_out: Counter[str]) -> None:
-    """Makes a layer over what the tree shows: its whiteouts and opaque marks first, then its other entries."""
-    marks, entries = sorted_out(layer.entries(left_out), left_out)
-    if marks:
-        ways = Ways(tree.root, tree.bounds, marks, entries)
-        make(lambda mark: hide(tree, ways, mark), marks, left_out)
-    make(tree.apply, entries, left_out)
-
-
-def hide(tree: Tree, ways: Ways, mark: str) -> None:
-    """Makes a mark, at the end of its way."""
-    above, _, name = mark.rpartition("/")
-    directory, is_there = ways.walk(above)
-    if not is_there:
-        raise LeftOut("whiteouts of nothing")
-    tree.hide(directory, name)
-
-
-@dataclass
-class Lost:
-    """A file or symlink whose name can't be kept. The first name of it that can be kept takes its place."""
-
-    entry: Entry
-    name: str | None = None
-
-    def named(self, other: Entry) -> Entry:
-        """The file under another of its names, which is a hard link of the archive."""
-        if self.name is not None:
-            return other._replace(text=self.name)
-        return self.entry._replace(path=other.path, mode=other.mode)
-
-
-def sorted_out(found: Iterable[Entry], left_out: Counter[str]) -> tuple[list[str], list[Entry]]:
-    """The paths of the marks, and all other entries that can be kept. The root has no entry."""
-    marks, entries = [], []
-    lost: dict[str, Lost] = {}
-    for entry in found:
-        if f"/{WHITEOUT}" in entry.path:
-            above, _, name = entry.path.rpartition("/")
-            if why := name_reason(f"{above}/{name.removeprefix(WHITEOUT)}"):
-                left_out[why] += 1
-            else:
-                marks.append(entry.path)
-            continue
-        file = lost.get(clean(entry.text)) if lost and entry.kind == "hard link" else None
-        if file is not None:
-            entry = file.named(entry)
-        if why := reason(entry):
-            left_out[why] += 1
-            if entry.kind in ("file", "symlink", "hard link"):
-                lost[entry.path] = file or Lost(entry)
-            else:
-                lost.pop(entry.path, None)
-        elif entry.path != "/":
-            entries.append(entry)
-            if file is not None and file.name is None:
-                file.name = entry.path
-    return marks, entries
-
-
-def make(step: Callable[[T], None], things: list[T], left_out: Counter[str]) -> None:
-    """Makes a step with each of the things, in order, and lets it go. Counts what can't be made."""
-    things.reverse()
-    while things:
-        try:
-            step(things.pop())
-        except LeftOut as why:
-            left_out[str(why)] += 1
-
 
 class Made(NamedTuple):
     """A layer that is made: its name, what it counts, and its operations, by where they begin and their number."""
@@ -115,6 +42,7 @@ class Script:
     limit: list[int]
     bounds: Bounds
     left_out: Counter[str]
+    has_batches: bool = False
 
     def say(self, command: dict) -> None:
         self.out.write(json.dumps(command, separators=(",", ":"), ensure_ascii=False) + "\n")
@@ -144,7 +72,7 @@ class Script:
         for number, layer in enumerate(layers, 1):
             begin = operations.tell()
             tree.begin_layer(operations)
-            unpack(tree, layer, self.left_out)
+            unpack(tree, layer.entries(self.left_out), self.left_out)
             name = chain(name, layer.digest or digest_of_text(operations, begin))
             warn(f"layer {number}", tree)
             yield Made(name, tree.blocks, tree.inodes, begin, tree.steps)
@@ -152,12 +80,20 @@ class Script:
     def _layer(self, ns: str, key: str, parent: str, layer: Made, operations: TextIO) -> None:
         of = {"ns": ns, "key": key}
         self.say({"do": "prepare", **of, "parent": parent})
-        self.say({"do": "charge", **of, "need": [layer.blocks, layer.inodes]})
-        fields = f',"ns":{text_of(ns)},"key":{text_of(key)},'
+        fields = f'"ns":{text_of(ns)},"key":{text_of(key)}'
         operations.seek(layer.begin)
-        for line in islice(operations, layer.steps):
-            self.out.write(line.replace(",", fields, 1))
+        lines = islice(operations, layer.steps)
+        if self.has_batches:
+            self._batches(f'{fields},"need":[{layer.blocks},{layer.inodes}]', lines)
+        else:
+            self.say({"do": "charge", **of, "need": [layer.blocks, layer.inodes]})
+            for line in lines:
+                self.out.write(line.replace(",", f",{fields},", 1))
         self.say({"do": "commit", **of, "name": layer.name})
+
+    def _batches(self, fields: str, lines: Iterator[str]) -> None:
+        for group in grouped(line[:-1] for line in lines):
+            self.out.write(f'{{"do":"batch",{fields},"ops":[{",".join(group)}]}}\n')
 
     def jobs(self, layers: list[Layer]) -> None:
         """A job for each namespace, that makes all layers in one. Nothing is printed before all layers are read."""
@@ -166,7 +102,7 @@ class Script:
             tree.begin_layer(operations)
             for layer in layers:
                 begin = operations.tell()
-                unpack(tree, layer, self.left_out)
+                unpack(tree, layer.entries(self.left_out), self.left_out)
                 name = chain(name, layer.digest or digest_of_text(operations, begin))
             warn("the image in one layer", tree)
             if operations.tell() >= MOST_LINE_BYTES:

@@ -15,11 +15,11 @@ from pathlib import Path
 from tarfile import BLOCKSIZE
 from typing import BinaryIO
 
-from images.bounds import MOST_FILES, Bounds, Unreadable
 from images.digests import Reader, Verifier
 from images.documents import Blob, read_layers
-from images.entries import CHUNK_BYTES, Entry, LayerArchive, entries_of_directory
-from images.headers import FILES, Header, read_header
+from pibroulez.images.bounds import MOST_FILES, Bounds, Unreadable
+from pibroulez.images.entries import CHUNK_BYTES, Entry, LayerArchive, entries_of_directory
+from pibroulez.images.headers import FILES, Header, read_header
 
 GZIP, ZSTD = b"\x1f\x8b", b"\x28\xb5\x2f\xfd"
 BUFFER_BYTES = 1 << 18

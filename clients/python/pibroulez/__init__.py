@@ -18,6 +18,7 @@ A daemon shares its store at a socket:
     with Store.connect("/run/pibroulez/lines.sock") as store: ...
 """
 from .answers import (
+    Batched,
     Change,
     Changed,
     Committed,
@@ -40,6 +41,7 @@ from .answers import (
     SizedFile,
     Swept,
     Symlink,
+    Unpacked,
     Usage,
     Viewed,
 )
@@ -79,6 +81,7 @@ from .errors import (
     NotKept,
     NotPermitted,
     NumbersSpent,
+    OperationRefused,
     OverLimit,
     Refused,
     ReservedField,
@@ -98,6 +101,7 @@ __all__ = [
     "BadArgument",
     "BadLog",
     "BadPath",
+    "Batched",
     "BelowCharge",
     "Change",
     "Changed",
@@ -141,6 +145,7 @@ __all__ = [
     "NotKept",
     "NotPermitted",
     "NumbersSpent",
+    "OperationRefused",
     "OverLimit",
     "PROGRAM",
     "Pair",
@@ -162,6 +167,7 @@ __all__ = [
     "TooManyActives",
     "TooManyConnections",
     "TooManyLinks",
+    "Unpacked",
     "Usage",
     "Viewed",
 ]

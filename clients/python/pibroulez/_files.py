@@ -1,8 +1,14 @@
 """The commands on files of an active snapshot, and the lookups."""
 from __future__ import annotations
 
+import io
+import json
+from collections import Counter
+from typing import BinaryIO, Mapping, Sequence
+
 from ._calls import Calls
 from .answers import (
+    Batched,
     Changed,
     Content,
     Directory,
@@ -13,8 +19,15 @@ from .answers import (
     SizedContent,
     SizedFile,
     Symlink,
+    Unpacked,
     Usage,
 )
+from .errors import NotEmpty, batched_in
+from .images.batches import MOST_OPERATIONS, grouped
+from .images.bounds import Bounds
+from .images.entries import LayerArchive
+from .images.seen import tree_of
+from .images.unpack import unpack
 
 
 class Files(Calls):
@@ -178,6 +191,61 @@ class Files(Calls):
     ) -> Changed:
         """Hides what the layers below have in a directory."""
         return self._change("opaque", session, extra, ns=namespace, key=key, path=path)
+
+    def batch(
+        self,
+        namespace: str,
+        key: str,
+        need: Pair,
+        operations: Sequence[Mapping[str, object]],
+        *,
+        session: int | None = None,
+    ) -> Batched:
+        """Charges what is needed, and carries out operations in order, each the fields of a file command with its word
+        `do` and without `ns`, `key` and `extra`.
+
+        One that needs more than is charged makes a charge of its own. Raises OperationRefused at the first that is
+        refused: those before it are done. Where the charge is refused, that is raised, and nothing is done.
+        """
+        answer = self._call("batch", session, ns=namespace, key=key, need=need, ops=operations)
+        return batched_in(answer)
+
+    def unpack(
+        self,
+        namespace: str,
+        key: str,
+        archive: BinaryIO,
+        *,
+        bounds: Bounds | None = None,
+        operations: int = MOST_OPERATIONS,
+        session: int | None = None,
+    ) -> Unpacked:
+        """Makes the layer of a new active snapshot by a layer's archive (tar, without compression), in batches of so
+        many operations that are charged what all need.
+
+        Whiteouts (`.wh.NAME`) and opaque marks (`.wh..wh..opq`) come first, since they hide what lower layers show and
+        nothing of their own (OCI image specification, "Whiteouts"). An entry takes the place of what is seen at its path,
+        unless both are directories. Directories that have no entry of their own get the mode octal 755. Files are made
+        by their sizes and digests. What the store doesn't keep is left out, and counted.
+
+        The store is asked what lower layers show, and nothing is made before the archive is read. Raises NotEmpty where
+        the layer has more than its root, and `images.bounds.Unreadable` for an archive that can't be read or is beyond
+        the bounds. Where an operation is refused, that is raised: those before it are done.
+        """
+        last = self.batch(namespace, key, (0, 0), [], session=session)
+        if last.count != (1, 1):
+            raise NotEmpty("NotEmpty", "file")
+        within = bounds or Bounds()
+        tree = tree_of(lambda path: self.look(namespace, key, path), lambda path: self.listdir(namespace, key, path), within)
+        left_out: Counter[str] = Counter()
+        lines = io.StringIO()
+        tree.begin_layer(lines)
+        unpack(tree, LayerArchive(archive, left_out, within).entries(), left_out)
+        lines.seek(0)
+        for group in grouped(lines, operations):
+            given = [json.loads(line) for line in group]
+            last = self.batch(namespace, key, (tree.blocks, tree.inodes), given, session=session)
+        return Unpacked(last.count, last.share, dict(left_out))
 
     # Lookups, which make no entry
 

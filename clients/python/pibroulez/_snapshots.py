@@ -199,7 +199,8 @@ class Snapshots(Calls):
         labels: Mapping[str, str | None] | None = None,
         page: int | None = None,
     ) -> Iterator[Info]:
-        """All snapshots that match, after the key `after`. `page` is how many are asked for at a time."""
+        """All snapshots that match, after the key `after`. A label that is None is asked for whatever its value. `page` is
+        how many are asked for at a time."""
 
         def walk(after: str | None) -> tuple[Info, ...]:
             return self.walk(namespace, after, page, name=name, parent=parent, kind=kind, labels=labels)

@@ -58,6 +58,25 @@ class Changed:
 
 
 @dataclass(frozen=True)
+class Batched:
+    """How many operations of a batch were done, what the layer takes after them, and what is charged for it."""
+
+    done: int
+    count: Usage
+    share: Usage
+
+
+@dataclass(frozen=True)
+class Unpacked:
+    """What a layer takes that was unpacked, what is charged for it, and what was left out of its archive, by what it is
+    and how many."""
+
+    count: Usage
+    share: Usage
+    left_out: Mapping[str, int]
+
+
+@dataclass(frozen=True)
 class Info:
     """A snapshot. `created` and `updated` are numbers of entries of the journal."""
 

@@ -4,7 +4,7 @@ from __future__ import annotations
 import signal
 from typing import Any, Mapping, Type
 
-from .answers import Usage
+from .answers import Batched, Usage
 
 
 class Error(Exception):
@@ -191,6 +191,22 @@ class NotKept(Refused):
     """
 
 
+class OperationRefused(Error):
+    """An operation of a batch was refused. Those before it are done, as `batch` tells, and no later one is.
+
+    `number` is the operation's, from 1, and `why` the refusal.
+    """
+
+    def __init__(self, number: int, why: Refused, batch: Batched) -> None:
+        super().__init__(number, why, batch)
+        self.number = number
+        self.why = why
+        self.batch = batch
+
+    def __str__(self) -> str:
+        return f"operation {self.number}: {self.why}"
+
+
 class Fault(Error):
     """A line was no command. Nothing has changed. `line` is its number, from 1, of all lines of the process."""
 
@@ -276,15 +292,26 @@ class Forked(Error):
 _REFUSALS: Mapping[str, Type[Refused]] = {each.__name__: each for each in Refused.__subclasses__()}
 
 
+def refusal_in(answer: Mapping[str, Any]) -> Refused:
+    """The refusal that an answer with an `error` tells."""
+    name, source = answer["error"], answer["from"]
+    if "free" in answer:
+        return OverLimit(name, source, Usage(*answer["free"]), answer.get("words", ""))
+    if "field" in answer:
+        return BadArgument(name, source, answer["field"])
+    return _REFUSALS.get(name, Refused)(name, source)
+
+
 def error_in(answer: Mapping[str, Any]) -> Error | None:
     """The error that an answer tells, if it tells one."""
     if "fault" in answer:
         return Fault(answer["fault"], answer["line"])
-    if "error" in answer:
-        name, source = answer["error"], answer["from"]
-        if "free" in answer:
-            return OverLimit(name, source, Usage(*answer["free"]), answer.get("words", ""))
-        if "field" in answer:
-            return BadArgument(name, source, answer["field"])
-        return _REFUSALS.get(name, Refused)(name, source)
-    return None
+    if "op" in answer:
+        refused, batch = refusal_in(answer), batched_in(answer)
+        return OperationRefused(answer["op"], refused, batch)
+    return refusal_in(answer) if "error" in answer else None
+
+
+def batched_in(answer: Mapping[str, Any]) -> Batched:
+    """What the answer to a batch tells that was made."""
+    return Batched(answer["done"], Usage(*answer["count"]), Usage(*answer["share"]))
