@@ -16,7 +16,7 @@ BUSY, NO_LOG, UNKNOWN = 6, 7, 8
 CALLS = set(
     "session reopen roll prepare view stat update usage mounts walk remove commit charge trim discard limit sweep"
     " lease_create lease_add lease_drop lease_release"
-    " mkdir create put write truncate setmode symlink link unlink rmdir rename opaque whiteout".split()
+    " batch mkdir create put write truncate setmode symlink link unlink rmdir rename opaque whiteout".split()
 )
 ASKING = ("quiet", "chain", "try")
 

@@ -113,6 +113,7 @@ def edits(pair, layers, entries):
         "create": [f"create {name(k, 'new')}" for k in some(entries, count)],
         "copy-up by setmode": [f"setmode {path}" for path in lower[:count]],
         "unlink with a whiteout": [f"unlink {path}" for path in lower[count:]],
+        "unlink of an own file": [f"unlink {name(k, 'new')}" for k in some(entries, count)],
     }
     measured = {what: [] for what in groups}
     for _ in range(REPEATS):

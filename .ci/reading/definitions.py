@@ -1,10 +1,11 @@
 """The list of all definitions, made from the comments above them in `crates/*/specs/`.
 
   .ci/tree definitions          prints the list
-  .ci/tree definitions --write  writes it to out/INDEX.md
-  .ci/tree definitions --check  fails where a document names a file or a definition that isn't there, where
-                                docs/DEFINITIONS.md lacks a file that public clauses cite, and where an exported
-                                definition has no comment above it that WITHOUT doesn't name
+  .ci/tree definitions --write  writes it to out/INDEX.md, and into docs/DEFINITIONS.md the order in which to read the
+                                files that public clauses cite: each after those of its crate that it imports
+  .ci/tree definitions --check  fails where a document names a file or a definition that isn't there, where the order
+                                in docs/DEFINITIONS.md is another one, and where an exported definition has no comment
+                                above it that WITHOUT doesn't name
 
 The list has the crates in the order of crates.txt. Of each it has first the files that public clauses cite, and in these
 the definitions that none leads to are marked as private; then come the other files. What a clause leads to, and so which
@@ -23,9 +24,10 @@ from itertools import groupby
 
 from libraries import TOP, crates
 from reading.believe import cited_alone, cited_by, citing, public_calls
-from reading.sources import defined_in, found, halves, is_there, module_of, read, specs_of
+from reading.sources import defined_in, found, halves, imports_in, is_there, module_of, read, specs_of
 
 LIST, GUIDE = "out/INDEX.md", "docs/DEFINITIONS.md"
+BEGIN, END = "<!-- order: begin -->\n", "<!-- order: end -->"
 
 # The exported definitions that have no comment above them, mostly parts of what is above them, by their files.
 WITHOUT = {
@@ -44,7 +46,6 @@ WITHOUT = {
     "snap_round/Rounds.antt": "inner_of outer_of",
     "snap_world/Move.antt": "is_working move",
     "snap_world/Sums.antt": "spare_in",
-    "snap_store/Replies.antt": "IsRemoval IsInfo IsUsage AreMounts IsPage IsDone IsSweep",
     "snap_writers/Going.antt": "none_run",
     "snap_writers/Jobs.antt": "with_end",
     "snap_writers/Starting.antt": "AreAssigned AreStarted",
@@ -110,6 +111,42 @@ def text_of_list():
     return re.sub(r"\n{3,}", "\n\n", "\n".join(lines)) + "\n"
 
 
+def in_order(paths):
+    """The files of a crate, each after those that it imports."""
+    modules, ordered = {module_of(it): it for it in paths}, []
+
+    def add(path):
+        if path not in ordered:
+            for place, _, _ in imports_in(path):
+                if (below := modules.get(place.removeprefix("Rattle."))) and below != path:
+                    add(below)
+            ordered.append(path)
+
+    for path in paths:
+        add(path)
+    return ordered
+
+
+def text_of_order():
+    """The crates in the order of crates.txt, each with the files that public clauses cite."""
+    lines = []
+    for crate in crates():
+        cited = [it for it in in_order(specs_of(crate)) if cited_by(it)]
+        if cited:
+            links = (f"[{os.path.basename(it).removesuffix('.antt')}](../{it})" for it in cited)
+            lines.append(f"- `{crate}`: {', '.join(links)}\n")
+    return "".join(lines)
+
+
+def parts_of_guide():
+    """The guide up to the order, the order, and the guide after it."""
+    front, begin, rest = read(GUIDE).partition(BEGIN)
+    old, end, back = rest.partition(END)
+    if not begin or not end:
+        sys.exit(f"definitions: {GUIDE} has no place for the order")
+    return front + begin, old, end + back
+
+
 @cache
 def names_in(path):
     """The names that a file of `specs/` or `proofs/` defines, cases and fields among them, and its own."""
@@ -131,10 +168,8 @@ def wrong_names():
     for name in dict.fromkeys(re.findall(r"`([A-Za-z][\w-]*(?:\.antt)?)`", guide)):
         if name not in words:
             yield f"{GUIDE}: no file of specs/ has {name}"
-    linked = {path for _, path in LINK.findall(read(GUIDE))}
-    for path in files():
-        if cited_by(path) and path not in linked:
-            yield f"{GUIDE}: {path} is missing in the order in which to read"
+    if parts_of_guide()[1] != text_of_order():
+        yield f"{GUIDE}: the order in which to read differs: `.ci/tree definitions --write` writes it"
 
 
 def wrong_comments():
@@ -159,6 +194,10 @@ def write():
     os.makedirs(os.path.dirname(f"{TOP}/{LIST}"), exist_ok=True)
     with open(f"{TOP}/{LIST}", "w", encoding="utf-8") as it:
         it.write(text_of_list())
+    front, _, back = parts_of_guide()
+    text = front + text_of_order() + back
+    with open(f"{TOP}/{GUIDE}", "w", encoding="utf-8") as it:
+        it.write(text)
 
 
 def main(words):

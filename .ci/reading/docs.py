@@ -13,6 +13,8 @@
 | a clause in a column `clause` | crates | it is one of the row's calls, or of a trait's laws |
 | a module, a crate in columns of these names | crates | the crate has it; it is there |
 | any other name in a table | crates | it is a word of the crate, of one below it, or of one that the cell names |
+| a line of a block of `rust` or `antt` | docs | it is one of a source |
+| a name in a column on wrong bodies | docs/CLAUSE.md | `wrong-bodies/` has it |
 | a command in SCRIPT.md's table | docs/SCRIPT.md | it is a word that the program knows, and each such word is there |
 | README.md | | it has at most 12,000 characters |
 
@@ -33,7 +35,7 @@ PAGES = (
     "examples/README.md", "clients/README.md", "clients/go/*/README.md", "benchmarks/README.md", "compare/README*",
     ".github/*.md", ".github/*/*.md",
 )
-FOLDERS = (".ci", ".github", "benchmarks", "clients", "compare", "crates", "docs", "examples", "wrong-bodies")
+FOLDERS = (".ci", ".github", "benchmarks", "clients", "compare", "crates", "docs", "examples", "packaging", "wrong-bodies")
 # Words of paths that stand for any name.
 ANY = re.compile(r"\b(?:NAME|FILE)\b")
 README_CHARACTERS = 12_000
@@ -104,6 +106,12 @@ class Crate:
 @cache
 def crate(name):
     return Crate(name)
+
+
+@cache
+def lines_of_code():
+    """The lines of all sources of crates, without the space around them."""
+    return {line.strip() for name in TABLE for path in files_of(name) for line in read(path).split("\n")}
 
 
 def lines_of(page):
@@ -272,6 +280,16 @@ def check_tables(checks, page, name):
             check_row(checks, page, number, cells, head, calls, own)
 
 
+def check_wrong_bodies(checks):
+    """The wrong bodies that the tables of docs/CLAUSE.md name."""
+    page, head = "docs/CLAUSE.md", None
+    for number, line, block in lines_of(page):
+        head = head or cells_of(line) if block is None and line.startswith("|") else None
+        for column, cell in zip(head or [], cells_of(line)):
+            for name in names_in(cell) if "wrong bod" in column and cell != column else []:
+                checks.test(page, number, found(f"wrong-bodies/*/{name}.edit"), f"there is no wrong body {name}")
+
+
 def known_words():
     """The words of commands, as the program has them."""
     words = re.search(r"(?s)const WORDS: .*?= \[(.*?)\n\];", read("crates/snap_script/src/verb.rt"))[1]
@@ -298,6 +316,8 @@ def main(words):
     for page in (page for pattern in PAGES for page in found(pattern)):
         own = page.split("/")[1] if page.startswith("crates/") else None
         for number, line, block in lines_of(page):
+            if block in ("rust", "antt") and page.startswith("docs/"):
+                checks.test(page, number, line.strip() in lines_of_code(), "no source has this line")
             if block is None:
                 check_links(checks, page, number, line)
             for text in QUOTED.findall(line) if block is None else [line] if block == "sh" else []:
@@ -309,6 +329,7 @@ def main(words):
         if own in TABLE:
             check_tables(checks, page, own)
     check_commands(checks)
+    check_wrong_bodies(checks)
     size = len(read("README.md"))
     checks.test("README.md", 1, size <= README_CHARACTERS, f"it has {size:,} characters, above {README_CHARACTERS:,}")
     for page, number, fault in sorted(checks.faults):

@@ -5,23 +5,22 @@
 //! lower layers. `commit` makes the upper layer the nearest lower one, and `uppers N` makes N empty ones in place
 //! of those that are there. The lists stay until `clear`.
 
-use crate::layer::{Layer, Path, Seen, look};
+use crate::layer::{Layer, Lower, Lowers, Path, Seen, look};
 use crate::operation::Operation;
 use std::error::Error;
 use std::io;
-use std::sync::Arc;
+use std::rc::Rc;
 
 struct Bench {
-    /// The nearest one first.
-    lowers: Vec<Arc<Layer>>,
+    lowers: Lowers,
     uppers: Vec<Layer>,
-    paths: Vec<Path>,
-    operations: Vec<Operation>,
+    paths: Vec<Path<'static>>,
+    operations: Vec<Operation<'static>>,
 }
 
 pub fn run(lines: impl Iterator<Item = io::Result<String>>) -> Result<(), Box<dyn Error>> {
     let mut bench = Bench {
-        lowers: Vec::new(),
+        lowers: None,
         uppers: vec![Layer::empty()],
         paths: Vec::new(),
         operations: Vec::new(),
@@ -42,7 +41,7 @@ impl Bench {
     fn take(&mut self, line: &str) -> Option<Option<String>> {
         let (word, rest) = line.split_once(' ').unwrap_or((line, ""));
         match word {
-            "look" => self.paths.push(Path::parse(rest)?),
+            "look" => self.paths.push(path(rest)?),
             "looks" => return Some(Some(self.looks(rest.parse().ok()?))),
             "apply" => {
                 return Some(Some(apply(
@@ -51,14 +50,19 @@ impl Bench {
                     &self.operations,
                 )));
             }
-            "fill" => return Some(Some(apply(&mut self.uppers, &[], &self.operations))),
+            "fill" => return Some(Some(apply(&mut self.uppers, &None, &self.operations))),
             "clear" => {
                 self.paths.clear();
                 self.operations.clear();
             }
             "commit" => {
                 let layer = std::mem::replace(self.uppers.first_mut()?, Layer::empty());
-                self.lowers.insert(0, Arc::new(layer));
+                let below = self.lowers.take();
+                self.lowers = Some(Rc::new(Lower {
+                    id: 0,
+                    layer,
+                    below,
+                }));
             }
             "uppers" => {
                 let count: usize = rest.parse().ok()?;
@@ -84,7 +88,7 @@ impl Bench {
     }
 }
 
-fn apply(uppers: &mut [Layer], lowers: &[Arc<Layer>], operations: &[Operation]) -> String {
+fn apply(uppers: &mut [Layer], lowers: &Lowers, operations: &[Operation]) -> String {
     let mut done = 0u64;
     for upper in &mut *uppers {
         for operation in operations {
@@ -100,21 +104,25 @@ fn apply(uppers: &mut [Layer], lowers: &[Arc<Layer>], operations: &[Operation]) 
     )
 }
 
-fn operation(word: &str, rest: &str) -> Option<Operation> {
+fn path(text: &str) -> Option<Path<'static>> {
+    Path::parse(text.to_owned())
+}
+
+fn operation(word: &str, rest: &str) -> Option<Operation<'static>> {
     let (text, second) = rest.split_once(' ').unwrap_or((rest, ""));
-    let path = Path::parse(text)?;
+    let path = path(text)?;
     Some(match word {
         "mkdir" => Operation::Mkdir { path, mode: 0o755 },
         "create" => Operation::Create { path, mode: 0o644 },
         "write" => Operation::Write {
             path,
-            bytes: second.into(),
+            bytes: second.as_bytes().to_vec().into(),
         },
         "setmode" => Operation::SetMode { path, mode: 0o600 },
         "unlink" => Operation::Unlink { path },
         "rename" => Operation::Rename {
             from: path,
-            to: Path::parse(second)?,
+            to: Path::parse(second.to_owned())?,
         },
         _ => return None,
     })

@@ -1,61 +1,75 @@
 //! Layers of nested maps, and what a stack of them shows (overlayfs.rst).
 
+use std::borrow::Cow;
 use std::collections::BTreeMap;
 use std::ops::{AddAssign, SubAssign};
-use std::sync::Arc;
+use std::rc::Rc;
 
 pub const MAX_PATH_BYTES: usize = 4095;
 
-/// A path by its names; the root has none.
-#[derive(Clone, PartialEq, Eq)]
-pub struct Path(Vec<String>);
+/// A path: its text, which for the root is empty.
+pub struct Path<'a>(Cow<'a, str>);
 
-impl Path {
-    pub fn parse(text: &str) -> Option<Path> {
-        let rest = text.strip_prefix('/')?;
-        if rest.is_empty() {
-            return Some(Path(Vec::new()));
+impl<'a> Path<'a> {
+    pub fn parse(text: impl Into<Cow<'a, str>>) -> Option<Path<'a>> {
+        let text = text.into();
+        if text == "/" {
+            return Some(Path("".into()));
         }
-        let names: Vec<String> = rest.split('/').map(str::to_owned).collect();
-        let is_name =
-            |name: &String| !matches!(name.as_str(), "" | "." | "..") && name.len() <= 255;
-        (text.len() <= MAX_PATH_BYTES && names.iter().all(is_name)).then_some(Path(names))
+        let is_name = |name: &str| !matches!(name, "" | "." | "..") && name.len() <= 255;
+        let is_path = text.starts_with('/') && text.len() <= MAX_PATH_BYTES && !text.ends_with('/');
+        (is_path && Names(&text).all(is_name)).then_some(Path(text))
     }
 
     pub fn begins(&self, front: &Path) -> bool {
-        self.0.starts_with(&front.0)
+        self.0
+            .strip_prefix(&*front.0)
+            .is_some_and(|rest| rest.is_empty() || rest.starts_with('/'))
     }
 
-    /// Its text.
-    pub fn text(&self) -> String {
-        let mut text = String::with_capacity(self.bytes());
-        for name in &self.0 {
-            text.push('/');
-            text.push_str(name);
-        }
-        if text.is_empty() {
-            "/".to_owned()
-        } else {
-            text
-        }
+    pub fn text(&self) -> &str {
+        if self.0.is_empty() { "/" } else { &self.0 }
     }
 
     /// The bytes of its text.
     pub fn bytes(&self) -> usize {
-        self.0.iter().map(|name| 1 + name.len()).sum()
+        self.0.len()
     }
 
     /// The last name, and those of the directories above it.
-    pub fn split_last(&self) -> Option<(&str, &[String])> {
-        let (name, parents) = self.0.split_last()?;
-        Some((name, parents))
+    pub fn split_last(&self) -> Option<(&str, Names<'_>)> {
+        let (parents, name) = self.0.rsplit_once('/')?;
+        Some((name, Names(parents)))
+    }
+
+    pub fn names(&self) -> Names<'_> {
+        Names(&self.0)
+    }
+}
+
+/// The names of a path, each after a slash.
+#[derive(Clone, Copy)]
+pub struct Names<'a>(&'a str);
+
+impl<'a> Iterator for Names<'a> {
+    type Item = &'a str;
+
+    fn next(&mut self) -> Option<&'a str> {
+        let rest = self.0.strip_prefix('/')?;
+        let end = rest
+            .bytes()
+            .position(|byte| byte == b'/')
+            .unwrap_or(rest.len());
+        let (name, rest) = rest.split_at(end);
+        self.0 = rest;
+        Some(name)
     }
 }
 
 pub struct Dir {
     pub mode: u32,
     pub opaque: bool,
-    pub entries: BTreeMap<String, Node>,
+    pub entries: BTreeMap<Box<str>, Node>,
 }
 
 impl Dir {
@@ -68,8 +82,9 @@ impl Dir {
     }
 
     fn longest(&self) -> usize {
-        let below = |(name, node): (&String, &Node)| 1 + name.len() + node.longest();
-        self.entries.iter().map(below).max().unwrap_or(0)
+        let below = self.entries.iter();
+        let bytes = below.map(|(name, node)| 1 + name.len() + node.longest());
+        bytes.max().unwrap_or(0)
     }
 }
 
@@ -140,14 +155,18 @@ impl Layer {
     }
 
     /// The directory of these names. The last ones are missing, and are made with these modes.
-    fn dir(&mut self, names: &[String], missing: &[u32]) -> &mut Dir {
-        let there = names.len() - missing.len();
+    fn dir(&mut self, names: Names, missing: &[u32]) -> &mut Dir {
+        let there = if missing.is_empty() {
+            usize::MAX
+        } else {
+            names.count() - missing.len()
+        };
         let mut dir = &mut self.root;
-        for (place, name) in names.iter().enumerate() {
+        for (place, name) in names.enumerate() {
             if place >= there {
                 let node = Node::Dir(Dir::empty(missing[place - there], false));
                 self.usage += node.usage();
-                dir.entries.insert(name.clone(), node);
+                dir.entries.insert(name.into(), node);
             }
             dir = match dir.entries.get_mut(name) {
                 Some(Node::Dir(inner)) => inner,
@@ -158,26 +177,23 @@ impl Layer {
     }
 
     /// Puts the node in place of what stands there, and makes the directories above it.
-    pub fn put(&mut self, parents: &[String], missing: &[u32], name: &str, node: Node) {
+    pub fn put(&mut self, parents: Names, missing: &[u32], name: &str, node: Node) {
         self.usage += node.usage();
-        let old = self
-            .dir(parents, missing)
-            .entries
-            .insert(name.to_owned(), node);
+        let old = self.dir(parents, missing).entries.insert(name.into(), node);
         if let Some(old) = old {
             self.usage -= old.usage();
         }
     }
 
     /// Takes what stands there.
-    pub fn take(&mut self, parents: &[String], name: &str) -> Option<Node> {
+    pub fn take(&mut self, parents: Names, name: &str) -> Option<Node> {
         let node = self.dir(parents, &[]).entries.remove(name)?;
         self.usage -= node.usage();
         Some(node)
     }
 
     /// Changes the node that stands there.
-    pub fn change(&mut self, parents: &[String], name: &str, change: impl FnOnce(&mut Node)) {
+    pub fn change(&mut self, parents: Names, name: &str, change: impl FnOnce(&mut Node)) {
         if let Some(node) = self.dir(parents, &[]).entries.get_mut(name) {
             let before = node.usage();
             change(node);
@@ -213,6 +229,20 @@ impl FsError {
     }
 }
 
+/// A committed layer over others, with the number of its snapshot.
+pub struct Lower {
+    pub id: u32,
+    pub layer: Layer,
+    pub below: Lowers,
+}
+
+/// The layers of a stack below its upper one, the nearest first.
+pub type Lowers = Option<Rc<Lower>>;
+
+pub fn each(lowers: &Lowers) -> impl Iterator<Item = &Lower> {
+    std::iter::successors(lowers.as_deref(), |it| it.below.as_deref())
+}
+
 /// The directories that are merged at one path: the upper layer's, and those of the lower layers that show
 /// through, the nearest first.
 pub struct Merged<'a> {
@@ -224,20 +254,16 @@ pub struct Merged<'a> {
 
 impl<'a> Merged<'a> {
     /// The roots.
-    fn root(upper: &'a Layer, lowers: &'a [Arc<Layer>]) -> Merged<'a> {
+    fn root(upper: &'a Layer, lowers: &'a Lowers) -> Merged<'a> {
         Merged {
             upper: Some(&upper.root),
-            lowers: lowers.iter().map(|layer| &layer.root).collect(),
+            lowers: each(lowers).map(|it| &it.layer.root).collect(),
             missing: Vec::new(),
         }
     }
 
     /// The directories at the path of these names.
-    pub fn walk(
-        upper: &'a Layer,
-        lowers: &'a [Arc<Layer>],
-        names: &[String],
-    ) -> Result<Merged<'a>, FsError> {
+    pub fn walk(upper: &'a Layer, lowers: &'a Lowers, names: Names) -> Result<Merged<'a>, FsError> {
         let mut merged = Merged::root(upper, lowers);
         for name in names {
             merged.enter(name)?;
@@ -288,17 +314,13 @@ impl<'a> Merged<'a> {
 
     /// The names that are seen, in order: of each name the nearest layer's node decides.
     pub fn names(&self) -> Vec<&'a str> {
-        let mut seen = BTreeMap::new();
-        for dir in self.upper.iter().chain(&self.lowers) {
-            for (name, node) in &dir.entries {
-                seen.entry(name.as_str())
-                    .or_insert(!matches!(node, Node::Whiteout));
-            }
-        }
-        seen.into_iter()
-            .filter(|(_, is_seen)| *is_seen)
-            .map(|(name, _)| name)
-            .collect()
+        let dirs = self.upper.iter().chain(&self.lowers);
+        let mut nodes: Vec<_> = dirs.flat_map(|dir| &dir.entries).collect();
+        // Equal names stay in the order of their layers.
+        nodes.sort_by_key(|(name, _)| *name);
+        nodes.dedup_by_key(|(name, _)| *name);
+        nodes.retain(|(_, node)| !matches!(node, Node::Whiteout));
+        nodes.into_iter().map(|(name, _)| &**name).collect()
     }
 
     /// What is seen under the name.
@@ -327,10 +349,10 @@ impl<'a> Merged<'a> {
 /// The names that the directory at the path shows.
 pub fn list<'a>(
     upper: &'a Layer,
-    lowers: &'a [Arc<Layer>],
+    lowers: &'a Lowers,
     path: &Path,
 ) -> Result<Vec<&'a str>, FsError> {
-    Ok(Merged::walk(upper, lowers, &path.0)?.names())
+    Ok(Merged::walk(upper, lowers, path.names())?.names())
 }
 
 /// What is seen at a path.
@@ -339,19 +361,55 @@ pub enum Seen {
     File { mode: u32, size: usize },
 }
 
-/// What the upper layer over the lower ones shows at the path.
-pub fn look(upper: &Layer, lowers: &[Arc<Layer>], path: &Path) -> Option<Seen> {
+/// What one layer tells of a path.
+enum Found<'a> {
+    Node(&'a Node),
+    /// Nothing is seen there, whatever the layers below have.
+    Hidden,
+    /// The layers below decide.
+    Absent,
+}
+
+impl Layer {
+    /// What stands at the name in the directory of the others.
+    fn find(&self, parents: Names, name: &str) -> Found<'_> {
+        let mut dir = &self.root;
+        let mut is_opaque = dir.opaque;
+        for parent in parents {
+            dir = match dir.entries.get(parent) {
+                Some(Node::Dir(inner)) => inner,
+                None if !is_opaque => return Found::Absent,
+                Some(Node::File { .. } | Node::Whiteout) | None => return Found::Hidden,
+            };
+            is_opaque |= dir.opaque;
+        }
+        match dir.entries.get(name) {
+            None if !is_opaque => Found::Absent,
+            Some(Node::Whiteout) | None => Found::Hidden,
+            Some(node) => Found::Node(node),
+        }
+    }
+}
+
+/// What the upper layer over the lower ones shows at the path: the first layer that has something there decides.
+pub fn look(upper: &Layer, lowers: &Lowers, path: &Path) -> Option<Seen> {
     let Some((name, parents)) = path.split_last() else {
         return Some(Seen::Dir {
             mode: upper.root.mode,
         });
     };
-    match Merged::walk(upper, lowers, parents).ok()?.seen(name)? {
-        Node::Dir(dir) => Some(Seen::Dir { mode: dir.mode }),
-        Node::File { mode, bytes } => Some(Seen::File {
-            mode: *mode,
-            size: bytes.len(),
-        }),
-        Node::Whiteout => None,
+    for layer in std::iter::once(upper).chain(each(lowers).map(|it| &it.layer)) {
+        match layer.find(parents, name) {
+            Found::Absent => {}
+            Found::Node(Node::Dir(dir)) => return Some(Seen::Dir { mode: dir.mode }),
+            Found::Node(Node::File { mode, bytes }) => {
+                return Some(Seen::File {
+                    mode: *mode,
+                    size: bytes.len(),
+                });
+            }
+            Found::Node(Node::Whiteout) | Found::Hidden => return None,
+        }
     }
+    None
 }

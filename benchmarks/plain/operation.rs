@@ -1,53 +1,53 @@
 //! Operations on the upper layer of a stack, by the rules of overlayfs.rst.
 
-use crate::layer::{Dir, FsError, Layer, MAX_PATH_BYTES, Merged, Node, Path};
-use std::sync::Arc;
+use crate::layer::{Dir, FsError, Layer, Lowers, MAX_PATH_BYTES, Merged, Node, Path};
+use std::borrow::Cow;
 
-pub enum Operation {
+pub enum Operation<'a> {
     Mkdir {
-        path: Path,
+        path: Path<'a>,
         mode: u32,
     },
     Create {
-        path: Path,
+        path: Path<'a>,
         mode: u32,
     },
     /// Gives a file these bytes in place of its own.
     Write {
-        path: Path,
-        bytes: Vec<u8>,
+        path: Path<'a>,
+        bytes: Cow<'a, [u8]>,
     },
     /// Puts the bytes into the file at the offset, with zeros where it is shorter.
     WriteAt {
-        path: Path,
+        path: Path<'a>,
         offset: usize,
-        bytes: Vec<u8>,
+        bytes: Cow<'a, [u8]>,
     },
     Truncate {
-        path: Path,
+        path: Path<'a>,
         size: usize,
     },
     SetMode {
-        path: Path,
+        path: Path<'a>,
         mode: u32,
     },
     Unlink {
-        path: Path,
+        path: Path<'a>,
     },
     /// Where something is seen at `to`, this is refused.
     Rename {
-        from: Path,
-        to: Path,
+        from: Path<'a>,
+        to: Path<'a>,
     },
 }
 
-impl Operation {
-    pub fn apply(&self, upper: &mut Layer, lowers: &[Arc<Layer>]) -> Result<(), FsError> {
+impl Operation<'_> {
+    pub fn apply(&self, upper: &mut Layer, lowers: &Lowers) -> Result<(), FsError> {
         match self {
             Operation::Mkdir { path, mode } => mkdir(upper, lowers, path, *mode),
             Operation::Create { path, mode } => create(upper, lowers, path, *mode),
             Operation::Write { path, bytes } => {
-                write(upper, lowers, path, |old| *old = bytes.clone())
+                write(upper, lowers, path, |old| bytes.as_ref().clone_into(old))
             }
             Operation::WriteAt {
                 path,
@@ -70,7 +70,7 @@ impl Operation {
     }
 }
 
-fn mkdir(upper: &mut Layer, lowers: &[Arc<Layer>], path: &Path, mode: u32) -> Result<(), FsError> {
+fn mkdir(upper: &mut Layer, lowers: &Lowers, path: &Path, mode: u32) -> Result<(), FsError> {
     let (name, parents) = path.split_last().ok_or(FsError::Exists)?;
     let merged = Merged::walk(upper, lowers, parents)?;
     if merged.seen(name).is_some() {
@@ -82,7 +82,7 @@ fn mkdir(upper: &mut Layer, lowers: &[Arc<Layer>], path: &Path, mode: u32) -> Re
     Ok(())
 }
 
-fn create(upper: &mut Layer, lowers: &[Arc<Layer>], path: &Path, mode: u32) -> Result<(), FsError> {
+fn create(upper: &mut Layer, lowers: &Lowers, path: &Path, mode: u32) -> Result<(), FsError> {
     let (name, parents) = path.split_last().ok_or(FsError::Exists)?;
     let merged = Merged::walk(upper, lowers, parents)?;
     if merged.seen(name).is_some() {
@@ -97,7 +97,7 @@ fn create(upper: &mut Layer, lowers: &[Arc<Layer>], path: &Path, mode: u32) -> R
 /// Changes the bytes of a file, which is copied up where the upper layer has none.
 fn write(
     upper: &mut Layer,
-    lowers: &[Arc<Layer>],
+    lowers: &Lowers,
     path: &Path,
     change: impl FnOnce(&mut Vec<u8>),
 ) -> Result<(), FsError> {
@@ -123,12 +123,7 @@ fn write(
     Ok(())
 }
 
-fn set_mode(
-    upper: &mut Layer,
-    lowers: &[Arc<Layer>],
-    path: &Path,
-    mode: u32,
-) -> Result<(), FsError> {
+fn set_mode(upper: &mut Layer, lowers: &Lowers, path: &Path, mode: u32) -> Result<(), FsError> {
     let (name, parents) = path.split_last().ok_or(FsError::Invalid)?;
     let merged = Merged::walk(upper, lowers, parents)?;
     let seen = merged.seen(name).ok_or(FsError::NotFound)?;
@@ -152,7 +147,7 @@ fn set_mode(
     Ok(())
 }
 
-fn unlink(upper: &mut Layer, lowers: &[Arc<Layer>], path: &Path) -> Result<(), FsError> {
+fn unlink(upper: &mut Layer, lowers: &Lowers, path: &Path) -> Result<(), FsError> {
     let (name, parents) = path.split_last().ok_or(FsError::IsDir)?;
     let merged = Merged::walk(upper, lowers, parents)?;
     match merged.seen(name) {
@@ -169,7 +164,7 @@ fn unlink(upper: &mut Layer, lowers: &[Arc<Layer>], path: &Path) -> Result<(), F
     Ok(())
 }
 
-fn rename(upper: &mut Layer, lowers: &[Arc<Layer>], from: &Path, to: &Path) -> Result<(), FsError> {
+fn rename(upper: &mut Layer, lowers: &Lowers, from: &Path, to: &Path) -> Result<(), FsError> {
     let (name, parents) = from.split_last().ok_or(FsError::Invalid)?;
     let (new_name, new_parents) = to.split_last().ok_or(FsError::Invalid)?;
     let source = Merged::walk(upper, lowers, parents)?;

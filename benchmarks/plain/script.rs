@@ -1,293 +1,351 @@
 //! The lines of a script: a JSON object a line, and an answer a line.
 
-use crate::json::{Object, Quoted, Value, parse};
+use crate::json::{Value, Writer, members};
 use crate::layer::{FsError, Path, Seen, Usage, list, look};
 use crate::operation::Operation;
-use crate::store::{Content, Joined, Namespace, Refused, Store};
-use std::collections::BTreeMap;
+use crate::store::{Call, Content, Refused, Reply, Store};
 use std::error::Error;
-use std::io::{self, BufRead, BufReader, BufWriter, Read, Write};
+use std::io::{self, BufRead, BufReader, Read, Write};
+
+/// So many bytes are read at once, and as many written, but for a longer answer.
+const BUFFER_BYTES: usize = 1 << 16;
 
 pub fn run(input: impl Read) -> Result<(), Box<dyn Error>> {
-    let mut input = BufReader::new(input);
-    let mut output = BufWriter::new(io::stdout());
-    let mut line = String::new();
+    let mut input = BufReader::with_capacity(BUFFER_BYTES, input);
+    let mut output = io::stdout().lock();
+    let mut answers = Writer(Vec::with_capacity(2 * BUFFER_BYTES));
+    let mut line = Vec::new();
     let mut store = None;
-    while next_line(&mut input, &mut output, &mut line)? {
-        let line = line.trim_end_matches('\n');
+    loop {
+        // Before it waits for input, it writes all answers so far.
+        if answers.0.len() >= BUFFER_BYTES || !input.buffer().contains(&b'\n') {
+            output.write_all(&answers.0)?;
+            output.flush()?;
+            answers.0.clear();
+        }
+        line.clear();
+        if input.read_until(b'\n', &mut line)? == 0 {
+            return store.map(drop).ok_or("no line".into());
+        }
+        let fields = Fields::of(str::from_utf8(&line)?).ok_or("no such line")?;
         match &mut store {
-            Some(store) => {
-                let answer = answer(store, line).ok_or("no such line")?;
-                writeln!(output, "{answer}")?;
-            }
+            Some(store) => answer(store, &fields, &mut answers).ok_or("no such line")?,
             None => {
-                store = Some(open(line).ok_or("the first line is no `open`")?);
-                writeln!(output, r#"{{"ok":true}}"#)?;
+                store = Some(open(&fields).ok_or("the first line is no `open`")?);
+                answers.reply(&Reply::Done);
             }
         }
+        answers.0.push(b'\n');
     }
-    store.map(drop).ok_or("no line".into())
 }
 
-/// Reads a line, and answers whether there was one. Before it waits for input, it writes all answers so far.
-fn next_line(
-    input: &mut BufReader<impl Read>,
-    output: &mut impl Write,
-    line: &mut String,
-) -> io::Result<bool> {
-    if !input.buffer().contains(&b'\n') {
-        output.flush()?;
-    }
-    line.clear();
-    Ok(input.read_line(line)? > 0)
-}
+macro_rules! fields {
+    ($($field:ident $name:literal),*) => {
+        /// The fields that some command has.
+        #[derive(Default)]
+        struct Fields<'a> {
+            $($field: Option<Value<'a>>,)*
+        }
 
-fn open(line: &str) -> Option<Store> {
-    let object = parse(line)?;
-    let Some(Value::List(list)) = object.get("namespaces") else {
-        return None;
+        impl<'a> Fields<'a> {
+            fn place(&mut self, name: &str) -> Option<&mut Option<Value<'a>>> {
+                match name {
+                    $($name => Some(&mut self.$field),)*
+                    _ => None,
+                }
+            }
+        }
     };
-    let mut namespaces = BTreeMap::new();
-    for item in list {
-        let Value::List(parts) = item else {
-            return None;
-        };
+}
+
+fields! {
+    verb "do", ns "ns", key "key", parent "parent", name "name", after "after", lease "lease", path "path",
+    from "from", to "to", text "text", fill "fill", offset "offset", size "size", mode "mode", need "need",
+    labels "labels", blocks "blocks", inodes "inodes", namespaces "namespaces"
+}
+
+impl<'a> Fields<'a> {
+    fn of(line: &'a str) -> Option<Fields<'a>> {
+        let mut fields = Fields::default();
+        members(line, &mut fields, Fields::place)?;
+        Some(fields)
+    }
+}
+
+fn text<'a>(field: &'a Option<Value>) -> Option<&'a str> {
+    field.as_ref()?.text()
+}
+
+fn owned(field: &Option<Value>) -> Option<Box<str>> {
+    text(field).map(Box::from)
+}
+
+fn number(field: &Option<Value>) -> Option<u64> {
+    field.as_ref()?.number()
+}
+
+fn path<'a>(field: &'a Option<Value>) -> Option<Path<'a>> {
+    Path::parse(text(field)?)
+}
+
+fn usage(field: &Option<Value>) -> Option<Usage> {
+    let (blocks, inodes) = field.as_ref()?.pair()?;
+    Some(Usage { blocks, inodes })
+}
+
+fn open(fields: &Fields) -> Option<Store> {
+    let elements = fields.namespaces.as_ref()?.elements()?;
+    let parts: Option<Vec<_>> = elements.iter().map(Value::elements).collect();
+    let mut limits = Vec::new();
+    for part in parts.as_ref()? {
         let [
             Value::Text(name),
             Value::Number(blocks),
             Value::Number(inodes),
-        ] = &parts[..]
+        ] = &part[..]
         else {
             return None;
         };
-        let namespace = Namespace {
-            limit: Usage {
+        limits.push((
+            &**name,
+            Usage {
                 blocks: *blocks,
                 inodes: *inodes,
             },
-            total: Usage::default(),
-            snapshots: BTreeMap::new(),
-            leases: BTreeMap::new(),
-        };
-        namespaces.insert(name.clone(), namespace);
+        ));
     }
-    Some(Store::open(namespaces))
+    Some(Store::open(limits.into_iter()))
 }
 
-/// The answer to the line, or nothing where it is none.
-fn answer(store: &mut Store, line: &str) -> Option<String> {
-    let object = parse(line)?;
-    let field = |name| text(&object, name);
-    let command = field("do")?;
-    let reply = match command {
-        "prepare" => store.prepare(field("ns")?, field("key")?, field("parent")?),
-        "commit" => store.commit(field("ns")?, field("key")?, field("name")?),
-        "remove" => store.remove(field("ns")?, field("key")?),
-        "stat" => store.stat(field("ns")?, field("key")?),
-        "walk" => store.walk(field("ns")?, field("after")?, 64),
-        "charge" => charge(store, field("ns")?, field("key")?, pair(&object, "need")?),
-        "usage" => store.usage(field("ns")?, field("key")?),
+/// Carries the line out and writes its answer. There is none where it is no line.
+fn answer(store: &mut Store, fields: &Fields, out: &mut Writer) -> Option<()> {
+    let command = text(&fields.verb)?;
+    if command == "report" {
+        store.report(out);
+        return Some(());
+    }
+    if command == "reopen" {
+        store.reopen();
+        out.reply(&Reply::Done);
+        return Some(());
+    }
+    let ns = text(&fields.ns)?;
+    if let Some(call) = call(command, fields) {
+        match store.call(ns, call) {
+            Ok(reply) => out.reply(reply),
+            Err(refused) => error(out, refused.name()),
+        }
+        return Some(());
+    }
+    let told = match command {
+        "tree" => store.tree(ns, out).map_err(Refused::name),
+        "look" => seen(store, fields, &path(&fields.path)?, out)?,
+        "list" | "resolve" => shown(store, fields, command, &path(&fields.path)?, out)?,
+        _ => operate(store, fields, &operation(command, fields)?, out)?,
+    };
+    if let Err(name) = told {
+        error(out, name);
+    }
+    Some(())
+}
+
+fn error(out: &mut Writer, name: &str) {
+    out.raw(r#"{"error":""#);
+    out.raw(name);
+    out.raw(r#""}"#);
+}
+
+/// The call that the line makes. There is none where it makes no entry, or where it is no line.
+fn call(command: &str, fields: &Fields) -> Option<Call> {
+    let key = || owned(&fields.key);
+    let lease = || owned(&fields.lease);
+    let name = || owned(&fields.name);
+    Some(match command {
+        "prepare" => Call::Prepare {
+            key: key()?,
+            parent: owned(&fields.parent)?,
+        },
+        "commit" => Call::Commit {
+            key: key()?,
+            name: name()?,
+        },
+        "remove" => Call::Remove { key: key()? },
+        "stat" => Call::Stat { key: key()? },
+        "walk" => Call::Walk {
+            after: owned(&fields.after)?,
+        },
+        "charge" => Call::Charge {
+            key: key()?,
+            need: usage(&fields.need)?,
+        },
+        "usage" => Call::Usage { key: key()? },
         "update" => {
-            let (label, value) = label(&object)?;
-            store.update(field("ns")?, field("key")?, label, value)
+            let (label, value) = fields.labels.as_ref()?.first_member()?;
+            Call::Update {
+                key: key()?,
+                label: label.into(),
+                value: value.into(),
+            }
         }
         "limit" => {
-            let (blocks, inodes) = (number(&object, "blocks")?, number(&object, "inodes")?);
-            store.limit(field("ns")?, Usage { blocks, inodes })
+            let (blocks, inodes) = (number(&fields.blocks)?, number(&fields.inodes)?);
+            Call::Limit {
+                limit: Usage { blocks, inodes },
+            }
         }
-        "lease_create" => store.lease_create(field("ns")?, field("lease")?),
-        "lease_add" => store.lease_add(field("ns")?, field("lease")?, field("name")?),
-        "lease_release" => store.lease_release(field("ns")?, field("lease")?),
-        "sweep" => store.sweep(field("ns")?),
-        "tree" => return Some(said(store.tree(field("ns")?))),
-        "report" => return Some(store.report()),
-        "reopen" => {
-            store.reopen();
-            return Some(r#"{"ok":true}"#.to_owned());
-        }
-        "look" => {
-            let path = Path::parse(field("path")?)?;
-            return Some(said(seen(store, field("ns")?, field("key")?, &path)));
-        }
-        "list" | "resolve" => {
-            let path = Path::parse(field("path")?)?;
-            return Some(said(shown(
-                store,
-                field("ns")?,
-                field("key")?,
-                command,
-                &path,
-            )));
-        }
-        _ => {
-            let operation = operation(command, &object)?;
-            return Some(said(operate(
-                store,
-                field("ns")?,
-                field("key")?,
-                &operation,
-                line,
-            )));
-        }
-    };
-    let reply = said(reply);
-    store.note(line, &reply);
-    Some(reply)
+        "lease_create" => Call::LeaseCreate { lease: lease()? },
+        "lease_add" => Call::LeaseAdd {
+            lease: lease()?,
+            name: name()?,
+        },
+        "lease_release" => Call::LeaseRelease { lease: lease()? },
+        "sweep" => Call::Sweep,
+        _ => return None,
+    })
 }
 
-fn said(reply: Result<String, Refused>) -> String {
-    reply.unwrap_or_else(|refused| format!(r#"{{"error":"{refused}"}}"#))
-}
-
-fn text<'a>(object: &'a Object, name: &str) -> Option<&'a str> {
-    match object.get(name)? {
-        Value::Text(text) => Some(text),
-        _ => None,
-    }
-}
-
-fn number(object: &Object, name: &str) -> Option<u64> {
-    match object.get(name)? {
-        Value::Number(number) => Some(*number),
-        _ => None,
-    }
-}
-
-/// The one label that the line gives.
-fn label(object: &Object) -> Option<(&str, &str)> {
-    let Value::Object(labels) = object.get("labels")? else {
-        return None;
-    };
-    let (label, Value::Text(value)) = labels.first_key_value()? else {
-        return None;
-    };
-    Some((label, value))
-}
-
-/// What a `write` puts into its file: a text, or a byte so many times.
-fn bytes(object: &Object) -> Option<Vec<u8>> {
-    if let Some(text) = text(object, "text") {
-        return Some(text.into());
-    }
-    let (byte, count) = numbers(object, "fill")?;
-    Some(vec![u8::try_from(byte).ok()?; usize::try_from(count).ok()?])
-}
-
-fn pair(object: &Object, name: &str) -> Option<Usage> {
-    let (blocks, inodes) = numbers(object, name)?;
-    Some(Usage { blocks, inodes })
-}
-
-fn numbers(object: &Object, name: &str) -> Option<(u64, u64)> {
-    let Value::List(parts) = object.get(name)? else {
-        return None;
-    };
-    let [Value::Number(first), Value::Number(second)] = parts[..] else {
-        return None;
-    };
-    Some((first, second))
-}
-
-fn operation(command: &str, object: &Object) -> Option<Operation> {
-    let path = |name| Path::parse(text(object, name)?);
+fn operation<'a>(command: &str, fields: &'a Fields) -> Option<Operation<'a>> {
+    let path = || path(&fields.path);
+    let mode = |default| number(&fields.mode).map_or(default, |mode| mode as u32);
     Some(match command {
         "mkdir" => Operation::Mkdir {
-            path: path("path")?,
-            mode: 0o755,
+            path: path()?,
+            mode: mode(0o755),
         },
         "create" => Operation::Create {
-            path: path("path")?,
-            mode: 0o644,
+            path: path()?,
+            mode: mode(0o644),
         },
         "write" => Operation::WriteAt {
-            path: path("path")?,
-            offset: number(object, "offset").unwrap_or(0) as usize,
-            bytes: bytes(object)?,
+            path: path()?,
+            offset: number(&fields.offset).unwrap_or(0) as usize,
+            bytes: match text(&fields.text) {
+                Some(text) => text.as_bytes().into(),
+                None => {
+                    let (byte, count) = fields.fill.as_ref()?.pair()?;
+                    vec![u8::try_from(byte).ok()?; usize::try_from(count).ok()?].into()
+                }
+            },
         },
         "truncate" => Operation::Truncate {
-            path: path("path")?,
-            size: number(object, "size")? as usize,
+            path: path()?,
+            size: number(&fields.size)? as usize,
         },
         "setmode" => Operation::SetMode {
-            path: path("path")?,
-            mode: 0o600,
+            path: path()?,
+            mode: mode(0o600),
         },
-        "unlink" => Operation::Unlink {
-            path: path("path")?,
-        },
+        "unlink" => Operation::Unlink { path: path()? },
         "rename" => Operation::Rename {
-            from: path("from")?,
-            to: path("to")?,
+            from: self::path(&fields.from)?,
+            to: self::path(&fields.to)?,
         },
         _ => return None,
     })
 }
 
-/// Charges at least the amount for the active snapshot.
-fn charge(store: &mut Store, ns: &str, key: &str, need: Usage) -> Result<String, Refused> {
-    let old = store.snapshot(ns, key)?.charge;
-    let new = Usage {
-        blocks: old.blocks.max(need.blocks),
-        inodes: old.inodes.max(need.inodes),
-    };
-    let namespace = store.namespaces.get_mut(ns).ok_or("NoNamespace")?;
-    namespace.charge(old, new)?;
-    store.snapshot(ns, key)?.charge = new;
-    Ok(format!(r#"{{"share":{new}}}"#))
-}
+/// What is told, or the name of a refusal. There is none where the line is no line.
+type Told = Option<Result<(), &'static str>>;
 
 /// Carries the operation out, and charges what the layer then takes.
-fn operate(
+fn operate(store: &mut Store, fields: &Fields, operation: &Operation, out: &mut Writer) -> Told {
+    let (ns, key) = (text(&fields.ns)?, text(&fields.key)?);
+    Some(changed(store, ns, key, operation).map(|(count, share)| {
+        out.raw(r#"{"count":"#);
+        out.usage(count);
+        out.raw(r#","share":"#);
+        out.usage(share);
+        out.raw("}");
+    }))
+}
+
+/// What the layer takes, and what is charged for it.
+fn changed(
     store: &mut Store,
     ns: &str,
     key: &str,
     operation: &Operation,
-    line: &str,
-) -> Result<String, Refused> {
-    let snapshot = store.snapshot(ns, key)?;
+) -> Result<(Usage, Usage), &'static str> {
+    let snapshot = store
+        .namespace(ns)
+        .and_then(|it| it.find_mut(key))
+        .map_err(Refused::name)?;
     let Content::Active { upper, lowers, .. } = &mut snapshot.content else {
-        return Err("NotActive");
+        return Err(Refused::NotActive.name());
     };
     operation.apply(upper, lowers).map_err(FsError::name)?;
-    let count = upper.usage();
-    let mut share = snapshot.charge;
-    if count.blocks > share.blocks || count.inodes > share.inodes {
-        let reply = charge(store, ns, key, count)?;
-        store.note(line, &reply);
-        share = store.snapshot(ns, key)?.charge;
+    let (count, share) = (upper.usage(), snapshot.charge);
+    if count.blocks <= share.blocks && count.inodes <= share.inodes {
+        return Ok((count, share));
     }
-    Ok(format!(r#"{{"count":{count},"share":{share}}}"#))
+    match store.call(
+        ns,
+        Call::Charge {
+            key: key.into(),
+            need: count,
+        },
+    ) {
+        Ok(Reply::Share(share)) => Ok((count, *share)),
+        Ok(_) => unreachable!("a charge is answered by a share"),
+        Err(refused) => Err(refused.name()),
+    }
 }
 
-fn seen(store: &mut Store, ns: &str, key: &str, path: &Path) -> Result<String, Refused> {
-    let snapshot = store.snapshot(ns, key)?;
-    let Content::Active { upper, lowers, .. } = &snapshot.content else {
-        return Err("NotActive");
+fn seen(store: &mut Store, fields: &Fields, path: &Path, out: &mut Writer) -> Told {
+    let (ns, key) = (text(&fields.ns)?, text(&fields.key)?);
+    let snapshot = match store.namespace(ns).and_then(|it| it.find_mut(key)) {
+        Ok(snapshot) => snapshot,
+        Err(refused) => return Some(Err(refused.name())),
     };
-    Ok(match look(upper, lowers, path) {
-        None => r#"{"seen":null}"#.to_owned(),
-        Some(Seen::Dir { mode }) => format!(r#"{{"seen":{{"dir":{mode}}}}}"#),
-        Some(Seen::File { mode, size }) => format!(r#"{{"seen":{{"file":{mode},"size":{size}}}}}"#),
-    })
+    let Content::Active { upper, lowers, .. } = &snapshot.content else {
+        return Some(Err(Refused::NotActive.name()));
+    };
+    match look(upper, lowers, path) {
+        None => out.raw(r#"{"seen":null}"#),
+        Some(Seen::Dir { mode }) => {
+            out.raw(r#"{"seen":{"dir":"#);
+            out.number(u64::from(mode));
+            out.raw("}}");
+        }
+        Some(Seen::File { mode, size }) => {
+            out.raw(r#"{"seen":{"file":"#);
+            out.number(u64::from(mode));
+            out.raw(r#","size":"#);
+            out.number(size as u64);
+            out.raw("}}");
+        }
+    }
+    Some(Ok(()))
 }
 
 /// The names in a directory, or the path of what is seen there, since no layer has a symlink.
-fn shown(
-    store: &mut Store,
-    ns: &str,
-    key: &str,
-    command: &str,
-    path: &Path,
-) -> Result<String, Refused> {
-    let snapshot = store.snapshot(ns, key)?;
+fn shown(store: &mut Store, fields: &Fields, command: &str, path: &Path, out: &mut Writer) -> Told {
+    let (ns, key) = (text(&fields.ns)?, text(&fields.key)?);
+    let snapshot = match store.namespace(ns).and_then(|it| it.find_mut(key)) {
+        Ok(snapshot) => snapshot,
+        Err(refused) => return Some(Err(refused.name())),
+    };
     let Content::Active { upper, lowers, .. } = &snapshot.content else {
-        return Err("NotActive");
+        return Some(Err(Refused::NotActive.name()));
     };
     if command == "resolve" {
-        look(upper, lowers, path).ok_or("NotFound")?;
-        return Ok(format!(r#"{{"path":{}}}"#, Quoted(&path.text())));
+        return Some(
+            look(upper, lowers, path)
+                .ok_or(FsError::NotFound.name())
+                .map(|_| {
+                    out.raw(r#"{"path":"#);
+                    out.text(path.text());
+                    out.raw("}");
+                }),
+        );
     }
-    let names = list(upper, lowers, path).map_err(FsError::name)?;
-    let names: Vec<_> = names.into_iter().map(Quoted).collect();
-    Ok(format!(r#"{{"names":[{}]}}"#, Joined(&names)))
+    Some(
+        list(upper, lowers, path)
+            .map_err(FsError::name)
+            .map(|names| {
+                out.raw(r#"{"names":"#);
+                out.list(names, |out, name| out.text(name));
+                out.raw("}");
+            }),
+    )
 }
