@@ -21,11 +21,7 @@ use std::alloc::{AllocError, Global};
 
 /// The batch of a line, by the fields that its operations may have.
 #[tactic(auto, unfolding(crate::specs::Commands::batch_of))]
-pub(crate) fn batch(
-    alloc: Global,
-    rule: FieldRule,
-    line: &Value<'_>,
-) -> Result<Command, ReadError>
+pub(crate) fn batch(alloc: Global, rule: FieldRule, line: &Value<'_>) -> Result<Command, ReadError>
     ensures { Gives (λ c. c) result (batch_of rule (view line.now)) }
 {
     let (namespace, key) = named(alloc, line)?;

@@ -42,10 +42,12 @@ impl Refused {
         ensures { result ≡ free_at_refusal self }
     {
         match self {
-            Refused::Book(Refusal::OverLimit {
-                free_blocks: blocks,
-                free_inodes: inodes,
-            }) => Some(Usage { blocks, inodes }),
+            Refused::Book(
+                Refusal::OverLimit {
+                    free_blocks: blocks,
+                    free_inodes: inodes,
+                },
+            ) => Some(Usage { blocks, inodes }),
             Refused::Book(_)
             | Refused::File(_)
             | Refused::NoSession

@@ -12,8 +12,8 @@ returns-in-Some-clause-done g c =
 pub loop-place-preserved : goal.loop-place-preserved
 loop-place-preserved g c = record {
   done = goes_on c.args.n c.args.slot c.args.id c.loop-place.place c.args.ops.now c.index-ops-place.result c.loop-place.world c.tried.new.world c.in_ok-answer.answer
-    (all_operated c.args.n c.args.slot c.args.id 0 c.args.ops.now c.args.world.now) (omega (arith, c.loop-place-test.true)) c.index-ops-place.is c.loop-place.invariant.done
-    c.in_ok-answer.ensures.done (sym c.refusal.ensures ∙ c.in_default.is);
+      (all_operated c.args.n c.args.slot c.args.id 0 c.args.ops.now c.args.world.now) (omega (arith, c.loop-place-test.true)) c.index-ops-place.is c.loop-place.invariant.done
+      c.in_ok-answer.ensures.done (sym c.refusal.ensures ∙ c.in_default.is);
   opening = c.tried.ensures.opening ∙ c.loop-place.invariant.opening;
 }
 
