@@ -1,7 +1,9 @@
 """`snap_replay serve --log`: the program behind its standard streams, the disk under it, and the format of its log."""
+import hashlib
 import json
 import mmap
 import os
+import re
 import select
 import struct
 import subprocess
@@ -12,7 +14,7 @@ TOP = os.path.dirname(os.path.dirname(os.path.realpath(__file__)))
 PROGRAM = f"{TOP}/crates/snap_replay/out/snap_replay"
 SECONDS = 60
 NOT_KEPT = b'{"error":"NotKept","from":"log"}'
-BUSY, NO_LOG, UNKNOWN = 6, 7, 8
+BUSY, NO_LOG, UNKNOWN, DIFFERS = 6, 7, 8, 9
 CALLS = set(
     "session reopen roll prepare view stat update usage mounts walk remove commit charge trim discard limit sweep"
     " lease_create lease_add lease_drop lease_release"
@@ -30,23 +32,66 @@ def wanted(is_so, words):
         raise Fault(words)
 
 
-# The format, by `crates/snap_log/specs/Texts.antt`.
+# The format, by `crates/snap_log/specs/Texts.antt` and `crates/snap_marks/specs/Marks.antt`.
+
+# A mark: the sum of the lines before it, and of the answers to those before its part.
+MARK = re.compile(rb'\{"do":"report","lines":"[0-9a-f]{64}","answers":"[0-9a-f]{64}"(,"rebased":true)?\}')
+MARK_HEAD = b'{"do":"report","lines":"'
+NO_SUM = bytes(32)
 
 
-def text_of(file):
-    """The text of a log: its lines that begin with an open brace, up to the first that doesn't or lacks its line feed."""
+def marked_text_of(file):
+    """The text of a log with its marks: its lines that begin with an open brace, up to the first that doesn't or lacks its
+    line feed."""
     end = 0
     while file[end : end + 1] == b"{" and (feed := file.find(b"\n", end)) >= 0:
         end = feed + 1
     return file[:end]
 
 
+def text_of(file):
+    """The same without the marks."""
+    return as_text([line for line in marked_text_of(file).split(b"\n")[:-1] if not line.startswith(MARK_HEAD)])
+
+
 def words_for(file):
     """What is said of a file that is no log; None where it is one."""
-    end = len(text_of(file))
+    end = len(marked_text_of(file))
     if len(file) <= 1 or file[end : end + 1] == (b" " if end else b"\0"):
         return None
     return b"the log is damaged at byte %d\n" % end if end else b"the file is no log\n"
+
+
+def chained(total, text):
+    return hashlib.sha256(total + text).digest()
+
+
+def mark_of(lines, answers, rebased=False):
+    """The mark with these sums."""
+    return b'%s%s","answers":"%s"%s}' % (MARK_HEAD, lines.hex().encode(), answers.hex().encode(), b',"rebased":true' * rebased)
+
+
+def log_of(parts, answers):
+    """The log of these parts, with these answers to all their lines."""
+    file, lines, told, answers = b"", NO_SUM, NO_SUM, iter(answers)
+    for part in parts:
+        for line in part:
+            lines = chained(lines, line + b"\n")
+        file += as_text([*part, mark_of(lines, told)])
+        for _ in part:
+            told = chained(told, next(answers) + b"\n")
+    return file + (b" " if parts else b"\0")
+
+
+def parts_of(file):
+    """The lines of a log by its parts, each of which ends with a mark. Lines behind the last one are a part too."""
+    parts = [[]]
+    for line in marked_text_of(file).split(b"\n")[:-1]:
+        if line.startswith(MARK_HEAD):
+            parts.append([])
+        else:
+            parts[-1].append(line)
+    return parts if parts[-1] else parts[:-1]
 
 
 def is_change(line, is_open):
@@ -108,6 +153,17 @@ def not_kept(line):
     if number is None:
         return NOT_KEPT
     return b'{"answer":%s,"id":%s}' % (NOT_KEPT, json.dumps(number, ensure_ascii=False).encode())
+
+
+def log_from(parts):
+    """The log of these parts, of which each has lines that change the store."""
+    return log_of(parts, served([line for part in parts for line in part]))
+
+
+def is_marked(file):
+    """The marks of a log are those that its lines and their answers want."""
+    text = marked_text_of(file)
+    wanted(log_from(parts_of(file))[:-1] == text, f"the marks are others: {text[-200:]!r}")
 
 
 class Disk:

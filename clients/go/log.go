@@ -13,8 +13,8 @@ import (
 	"unicode/utf8"
 )
 
-// A BadLog is a file that is no log, or that can't be read as one, so that its store can't be opened again. The file
-// is as it was. One of version 0.1.0 is one too: the README of clients says how it is taken over.
+// A BadLog is a file that is no log, that can't be read as one, or that isn't as it was written, so that its store can't be
+// opened again. The file is as it was. One of version 0.1.0 is one too: the README of clients says how it is taken over.
 type BadLog struct {
 	Path string
 	// Line is the line's number, from 1, or 0 where it isn't that of a line.
@@ -77,6 +77,7 @@ const (
 	statusBusy      = 6
 	statusNoLog     = 7
 	statusLogFailed = 8
+	statusDiffers   = 9
 )
 
 // What has ended a process where that is of its log, by its status and its words, or else nil.
@@ -88,7 +89,7 @@ func (l *log) cause(waited error, words string) error {
 	switch exit.ExitCode() {
 	case statusBusy:
 		return &fs.PathError{Op: "open log", Path: l.path, Err: syscall.EWOULDBLOCK}
-	case statusNoLog:
+	case statusNoLog, statusDiffers:
 		return &BadLog{l.path, 0, words}
 	case statusLogFailed:
 		return &failedLog{waited, words}

@@ -128,7 +128,8 @@ func TestReopened(t *testing.T) {
 	equal(t, must[Prepared](t)(store.Prepare(ctx, "a", "next", "base")).ID, uint64(4))
 }
 
-// The lines of the log are commands of a script: of the calls, without lookups and what made no entry.
+// The lines of the log are commands of a script: of the calls, without lookups and what made no entry, each with a mark,
+// which is a question.
 func TestLogIsAScript(t *testing.T) {
 	path := logPath(t)
 	store := newStoreOf(t, loggedConfig(path))
@@ -140,7 +141,8 @@ func TestLogIsAScript(t *testing.T) {
 		granted(t, json.Unmarshal([]byte(line), &command))
 		words = append(words, command.Do)
 	}
-	equal(t, strings.Join(words, " "), "open prepare create stat remove commit prepare commit prepare")
+	calls := "open prepare create stat remove commit prepare commit prepare"
+	equal(t, strings.Join(words, " "), strings.ReplaceAll(calls, " ", " report ")+" report")
 	run := exec.Command(program(), "run")
 	run.Stdin, _ = os.Open(path)
 	answers, err := run.Output()
@@ -156,7 +158,8 @@ func TestWhatACrashLeaves(t *testing.T) {
 	fill(t, store)
 	granted(t, store.Close())
 	lines := linesOf(t, path)
-	before, last := strings.Join(lines[:len(lines)-1], ""), lines[len(lines)-1]
+	// The line of a call, and the mark behind it.
+	before, last := strings.Join(lines[:len(lines)-2], ""), strings.Join(lines[len(lines)-2:], "")
 	for _, rest := range []int{0, 1, len(last) / 2, len(last) - 2, len(last) - 1} {
 		granted(t, os.WriteFile(path, []byte(before+" "+last[1:1+rest]), 0o600))
 		store := reopen(t, path)
@@ -164,7 +167,7 @@ func TestWhatACrashLeaves(t *testing.T) {
 		must[Prepared](t)(store.Prepare(ctx, "a", "last", "base"))
 		granted(t, store.Close())
 		found := linesOf(t, path)
-		equal(t, strings.Join(found[:len(found)-1], ""), before)
+		equal(t, strings.Join(found[:len(found)-2], ""), before)
 		equal(t, len(found), len(lines))
 	}
 }
@@ -176,7 +179,7 @@ func TestCutLog(t *testing.T) {
 	fill(t, store)
 	granted(t, store.Close())
 	lines := linesOf(t, path)
-	whole, last := strings.Join(lines, ""), len(lines[len(lines)-1])
+	whole, last := strings.Join(lines, ""), len(strings.Join(lines[len(lines)-2:], ""))
 	for _, rest := range []int{0, 1, last / 2, last - 1, last} {
 		granted(t, os.WriteFile(path, []byte(whole[:len(whole)-rest]), 0o600))
 		_, err := Open(ctx, program(), path)
@@ -199,13 +202,18 @@ func TestBadLogs(t *testing.T) {
 		isError(t, err, fs.ErrNotExist)
 	}
 	opening := `{"do":"open","root":"/r","namespaces":[]}` + "\n"
+	// The mark of no line that changes something.
+	none := strings.Repeat("0", 64)
+	mark := `{"do":"report","lines":"` + none + `","answers":"` + none + `"}` + "\n"
 	for _, it := range []struct {
 		lines string
 		line  uint64
 	}{
-		{`{"do":"report"}` + "\n ", 1},
-		{`{"do":"open","root":"r","namespaces":[]}` + "\n" + `{"do":"report"}` + "\n ", 1},
-		{strings.Replace(opening, "open", "opeN", 1) + " ", 1},
+		{`{"do":"report"}` + "\n" + mark + " ", 1},
+		{`{"do":"open","root":"r","namespaces":[]}` + "\n" + `{"do":"report"}` + "\n" + mark + " ", 1},
+		{strings.Replace(opening, "open", "opeN", 1) + mark + " ", 1},
+		{opening + " ", 0},
+		{opening + mark + " ", 0},
 		{`{"do":`, 0},
 		{"a text", 0},
 		{strings.Repeat("x", 10_000) + "\na text\nwithout its line feed", 0},

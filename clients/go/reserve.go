@@ -11,8 +11,9 @@ import (
 // calls that free something. Neither the file's size nor its bytes change by it.
 const reserveSize = 256 << 10
 
-// The most bytes that a line has in the log beside those that it is given here: its id, and the blank behind the lines.
-const lineMore = 32
+// The most bytes that a line takes in the log beside those that it is given here: its id, the mark of its part, which has
+// two sums, and the blank behind the lines.
+const lineMore = 32 + 168
 
 // Commands that change nothing and make no entry in the journal. They need no room.
 var isLookup = map[string]bool{

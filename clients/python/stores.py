@@ -31,10 +31,15 @@ def wait_until(is_met: Callable[[], bool]) -> None:
         time.sleep(0.001)
 
 
-def log_lines(log: Path) -> List[bytes]:
-    """The lines that count of a log that may be written meanwhile. What stands behind them is none."""
+def marked_lines(log: Path) -> List[bytes]:
+    """The lines that count of a log that may be written meanwhile, with its marks. What stands behind them is none."""
     with log.open("rb") as file:
         return list(itertools.takewhile(lambda line: line[:1] == b"{" and line[-1:] == b"\n", file))
+
+
+def log_lines(log: Path) -> List[bytes]:
+    """Those without the marks."""
+    return [line for line in marked_lines(log) if not line.startswith(b'{"do":"report","lines":')]
 
 
 def store_of(log: Path, program: str | Path = PROGRAM) -> Store:

@@ -6,6 +6,7 @@ import itertools
 import json
 import os
 import random
+import re
 import signal
 import subprocess
 import sys
@@ -18,8 +19,10 @@ from typing import Iterator, Type
 
 import pibroulez
 from pibroulez import Died, Fault, Kind, Store, Usage
-from stores import PROGRAM, log_lines, open_store, store_of, watched_program
+from stores import PROGRAM, log_lines, marked_lines, open_store, store_of, watched_program
 
+# The mark of no line that changes something.
+MARK = '{"do":"report","lines":"%s","answers":"%s"}\n' % ("0" * 64, "0" * 64)
 KILLS = int(os.environ.get("PIBROULEZ_KILLS", "20"))
 # A session's life that is killed: it commits snapshots, and prints each name once the commit has been answered.
 COMMITTER = """
@@ -121,8 +124,8 @@ class Logs(unittest.TestCase):
         it, the store is the one before its call, and the log goes on."""
         with open_store(log=self.log) as store:
             self.fill(store)
-        lines = log_lines(self.log)
-        before, last = b"".join(lines[:-1]), lines[-1]
+        lines, marked = log_lines(self.log), marked_lines(self.log)
+        before, last = b"".join(marked[:-2]), b"".join(marked[-2:])
         for rest in (0, 1, len(last) // 2, len(last) - 2, len(last) - 1):
             self.log.write_bytes(before + b" " + last[1 : 1 + rest])
             with self.subTest(rest), store_of(self.log) as store:
@@ -137,8 +140,8 @@ class Logs(unittest.TestCase):
         """A log that was cut is told, wherever it was, and stays as it was."""
         with open_store(log=self.log) as store:
             self.fill(store)
-        whole = b"".join(log_lines(self.log))
-        last = log_lines(self.log)[-1]
+        whole = b"".join(marked_lines(self.log))
+        last = b"".join(marked_lines(self.log)[-2:])
         for rest in (0, 1, len(last) // 2, len(last) - 1, len(last)):
             self.log.write_bytes(whole[: len(whole) - rest])
             with self.subTest(rest):
@@ -149,11 +152,13 @@ class Logs(unittest.TestCase):
                 self.assertEqual(self.log.read_bytes(), whole[: len(whole) - rest])
 
     def test_flipped_bits(self) -> None:
-        """A log with a flipped bit is told, and stays as it was, or gives a store. In the place of a brace or of the blank
-        it is told, and where the first line is no open any more."""
+        """A log with a flipped bit is told, and stays as it was. Within a mark that isn't the last one it may be read over,
+        and then the store is the same."""
         with open_store(log=self.log) as store:
             self.fill(store)
+            tree = store.tree("a")
         whole = self.log.read_bytes()
+        marks = [it.span() for it in re.finditer(rb'\{"do":"report","lines"[^\n]*\n', whole)]
         first = whole.index(b"\n") + 1
         told = {0, whole.index(b"open"), *(n + 1 for n, byte in enumerate(whole) if byte == 10)}
         for at in sorted({*told, *range(0, first, 5), *range(first, len(whole), 11)}):
@@ -162,8 +167,10 @@ class Logs(unittest.TestCase):
             self.log.write_bytes(text)
             with self.subTest(at):
                 try:
-                    self.reopen().close()
+                    with store_of(self.log) as store:
+                        self.assertEqual(store.tree("a"), tree)
                     self.assertNotIn(at, told)
+                    self.assertTrue(any(begin <= at < end for begin, end in marks[:-1]))
                 except pibroulez.BadLog:
                     pass
                 self.assertEqual(self.log.read_bytes(), text)
@@ -179,9 +186,11 @@ class Logs(unittest.TestCase):
                 self.reopen()
         opening = '{"do":"open","root":"/r","namespaces":[]}\n'
         for line, text in (
-            (1, '{"do":"report"}\n '),
-            (1, '{"do":"open","root":"r","namespaces":[]}\n{"do":"report"}\n '),
-            (1, opening.replace("open", "opeN") + " "),
+            (1, '{"do":"report"}\n' + MARK + " "),
+            (1, '{"do":"open","root":"r","namespaces":[]}\n{"do":"report"}\n' + MARK + " "),
+            (1, opening.replace("open", "opeN") + MARK + " "),
+            (0, opening + " "),
+            (0, opening + MARK + " "),
             (0, '{"do":"open"'),
             (0, opening + "\x00\x00\n" + '{"do":"report"}\n'),
         ):

@@ -19,7 +19,7 @@ from .errors import BadLog, Died, Error, Forked, LogFailed, error_in
 _CHUNK = 1 << 16
 
 # The statuses of a process that has no log, or whose log failed: docs/SCRIPT.md.
-_BUSY, _NO_LOG, _LOG_FAILED = 6, 7, 8
+_BUSY, _NO_LOG, _LOG_FAILED, _LOG_DIFFERS = 6, 7, 8, 9
 
 
 def is_fault(answer: bytes) -> bool:
@@ -179,7 +179,7 @@ class Connection:
         """Why a process has ended that has answered nothing."""
         if self._log is not None and status == _BUSY:
             return BlockingIOError(errno.EWOULDBLOCK, "another process has the log", self._log)
-        if self._log is not None and status == _NO_LOG:
+        if self._log is not None and status in (_NO_LOG, _LOG_DIFFERS):
             return BadLog(self._log, 0, words)
         return self._error_of_end(status, words)
 

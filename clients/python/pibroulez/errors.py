@@ -263,7 +263,8 @@ class LogFailed(Died):
 
 
 class BadLog(Error):
-    """A file is no log or can't be read as one, so a store can't be had back. The file is as it was.
+    """A file is no log, can't be read as one, or isn't as it was written, so a store can't be had back. The file is as it
+    was.
 
     `line` is the line's number, from 1, or 0 where it isn't that of a line, and `fault` what the program says of it.
     """

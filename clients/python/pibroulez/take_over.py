@@ -24,6 +24,8 @@ from ._peers import StrPath
 from .errors import BadLog, Died, Error, Fault, LogFailed, NotKept, error_in
 from .store import PROGRAM
 
+# A line of a log that has sums of those before it begins so.
+_MARK = b'{"do":"report","lines":"'
 _CHUNK = 1 << 20
 
 
@@ -62,7 +64,8 @@ def take_over(old: StrPath, new: StrPath, *, program: StrPath = PROGRAM) -> Take
                 if answers != told:
                     raise BadLog(path, 0, "it tells another store")
             with open(made, "rb") as file_made:
-                kept = sum(1 for _ in itertools.takewhile(lambda line: line.startswith(b"{"), file_made))
+                lines_made = itertools.takewhile(lambda line: line.startswith(b"{"), file_made)
+                kept = sum(1 for line in lines_made if not line.startswith(_MARK))
             # Never in the place of a file that has come meanwhile.
             os.link(made, path)
         _sync(folder)

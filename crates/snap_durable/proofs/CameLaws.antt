@@ -36,12 +36,12 @@ at_end_before None b h e = tt
 at_end_before (Some xs) None h e = absurd h
 at_end_before (Some xs) (Some ys) h e = h ∙ e
 
-module _ {A D : Type 0} {g : Ghosts D} (effect : Effects A) (changes : A → List ℕ → Bool) (keeping : Bool → A → A) (settled : A → Bool) (limit : ℕ) (v : A) (log : Log D g) (first before : Option (List ℕ)) where
+module _ {A D : Type 0} {g : Ghosts D} (effect : Effects A) (changes : A → List ℕ → Bool) (mark : A → List ℕ → List ℕ) (keeping : Bool → A → A) (settled : A → Bool) (limit : ℕ) (v : A) (log : Log D g) (first before : Option (List ℕ)) where
   -- so much of an input came, and its lines were answered
   pub record Came (w : A) (s : Batched) (log_new : Log D g) (left after : Option (List ℕ)) : Type 0 where
     pub read : List ℕ
     pub consumed : Consumes first left read
-    pub went : Went effect changes keeping settled v (none_yet limit) log before read w s log_new after
+    pub went : Went effect changes mark keeping settled v (none_yet limit) log before read w s log_new after
 
   pub came_first : Came v (none_yet limit) log first before
   came_first = record {
@@ -61,11 +61,11 @@ module _ {A D : Type 0} {g : Ghosts D} (effect : Effects A) (changes : A → Lis
   }
 
   pub came_more : (u w : A) (s t : Batched) (mid_log log_new : Log D g) (left left_new mid after : Option (List ℕ)) (bytes : List ℕ) → Came u s mid_log left mid → Consumes left left_new bytes
-      → Went effect changes keeping settled u s mid_log mid bytes w t log_new after → Came w t log_new left_new after
+      → Went effect changes mark keeping settled u s mid_log mid bytes w t log_new after → Came w t log_new left_new after
   came_more u w s t mid_log log_new left left_new mid after bytes was more now = record {
     read = was.read ++ bytes;
     consumed = Consumes-trans first left left_new was.read bytes was.consumed more;
-    went = went_more effect changes keeping settled v u (none_yet limit) s log mid_log before mid after was.read bytes was.went w t log_new now;
+    went = went_more effect changes mark keeping settled v u (none_yet limit) s log mid_log before mid after was.read bytes was.went w t log_new now;
   }
 
   -- nothing of a line is left behind the whole ones
@@ -73,68 +73,68 @@ module _ {A D : Type 0} {g : Ghosts D} (effect : Effects A) (changes : A → Lis
   came_begun u s mid_log left mid was = begun_next (none_yet limit) s was.read (begun_none limit) was.went.held
 
   abbrev pub Left : List ℕ → Option (List ℕ) → Type 0
-  Left f after = IfSome first (λ bytes. LeavesPart effect changes keeping settled v (none_yet limit) (text_in log) (bytes ++ 10 ∷ []) f before after)
+  Left f after = IfSome first (λ bytes. LeavesPart effect changes mark keeping settled v (none_yet limit) (text_in log) (bytes ++ 10 ∷ []) f before after)
 
   -- what a crash leaves of what was read, it leaves of the input
-  of_input : (left : Option (List ℕ)) (read f : List ℕ) (after : Option (List ℕ)) → Consumes first left read → LeavesPart effect changes keeping settled v (none_yet limit) (text_in log) read f before after → Left f after
+  of_input : (left : Option (List ℕ)) (read f : List ℕ) (after : Option (List ℕ)) → Consumes first left read → LeavesPart effect changes mark keeping settled v (none_yet limit) (text_in log) read f before after → Left f after
   of_input left read f after consumed leaves = on first left consumed
     where
-      on : (x left : Option (List ℕ)) → Consumes x left read → IfSome x (λ bytes. LeavesPart effect changes keeping settled v (none_yet limit) (text_in log) (bytes ++ 10 ∷ []) f before after)
+      on : (x left : Option (List ℕ)) → Consumes x left read → IfSome x (λ bytes. LeavesPart effect changes mark keeping settled v (none_yet limit) (text_in log) (bytes ++ 10 ∷ []) f before after)
       on None left h = tt
       on (Some bytes) None h = absurd h
       on (Some bytes) (Some more) h =
-          subst (λ l. LeavesPart effect changes keeping settled v (none_yet limit) (text_in log) l f before after) (sym (ap (λ l. l ++ 10 ∷ []) h ∙ append_assoc read more (10 ∷ [])))
-          (leaves_more effect changes keeping settled v (none_yet limit) (text_in log) read (more ++ 10 ∷ []) f before after leaves)
+          subst (λ l. LeavesPart effect changes mark keeping settled v (none_yet limit) (text_in log) l f before after) (sym (ap (λ l. l ++ 10 ∷ []) h ∙ append_assoc read more (10 ∷ [])))
+          (leaves_more effect changes mark keeping settled v (none_yet limit) (text_in log) read (more ++ 10 ∷ []) f before after leaves)
 
   -- the same of the whole input, with a line feed
-  of_all : (left : Option (List ℕ)) (read f : List ℕ) (after : Option (List ℕ)) → Consumes first left read → IsAtEnd left → LeavesPart effect changes keeping settled v (none_yet limit) (text_in log) (read ++ 10 ∷ []) f before after → Left f after
+  of_all : (left : Option (List ℕ)) (read f : List ℕ) (after : Option (List ℕ)) → Consumes first left read → IsAtEnd left → LeavesPart effect changes mark keeping settled v (none_yet limit) (text_in log) (read ++ 10 ∷ []) f before after → Left f after
   of_all left read f after consumed at_end leaves = on first left consumed at_end
     where
-      on : (x left : Option (List ℕ)) → Consumes x left read → IsAtEnd left → IfSome x (λ bytes. LeavesPart effect changes keeping settled v (none_yet limit) (text_in log) (bytes ++ 10 ∷ []) f before after)
+      on : (x left : Option (List ℕ)) → Consumes x left read → IsAtEnd left → IfSome x (λ bytes. LeavesPart effect changes mark keeping settled v (none_yet limit) (text_in log) (bytes ++ 10 ∷ []) f before after)
       on None left h e = tt
       on (Some bytes) None h e = absurd h
       on (Some bytes) (Some more) h e =
-          subst (λ l. LeavesPart effect changes keeping settled v (none_yet limit) (text_in log) (l ++ 10 ∷ []) f before after) (sym (h ∙ ap (λ l. read ++ l) e ∙ append-nil read)) leaves
+          subst (λ l. LeavesPart effect changes mark keeping settled v (none_yet limit) (text_in log) (l ++ 10 ∷ []) f before after) (sym (h ∙ ap (λ l. read ++ l) e ∙ append-nil read)) leaves
 
   module _ (u : A) (s : Batched) (mid_log : Log D g) (left mid : Option (List ℕ)) (was : Came u s mid_log left mid) where
     -- a crash between two reads
     pub came_leaves : (f : List ℕ) → IsHonest mid_log → g.may_leave mid_log.disk f → Left f mid
-    came_leaves f clean h = of_input left was.read f mid was.consumed (went_leaves effect changes keeping settled v u (none_yet limit) s log mid_log before mid was.read f was.went clean h)
+    came_leaves f clean h = of_input left was.read f mid was.consumed (went_leaves effect changes mark keeping settled v u (none_yet limit) s log mid_log before mid was.read f was.went clean h)
 
     -- a crash within the lines of a read
-    pub came_stops : (left_new after : Option (List ℕ)) (bytes f : List ℕ) → Consumes left left_new bytes → IsHonest mid_log → LeavesPart effect changes keeping settled u s (text_in mid_log) bytes f mid after → Left f after
+    pub came_stops : (left_new after : Option (List ℕ)) (bytes f : List ℕ) → Consumes left left_new bytes → IsHonest mid_log → LeavesPart effect changes mark keeping settled u s (text_in mid_log) bytes f mid after → Left f after
     came_stops left_new after bytes f more clean leaves =
         of_input left_new (was.read ++ bytes) f after (Consumes-trans first left left_new was.read bytes was.consumed more)
-        (leaves_next effect changes keeping settled v u (none_yet limit) s log mid_log before mid after was.read bytes was.went f clean leaves)
+        (leaves_next effect changes mark keeping settled v u (none_yet limit) s log mid_log before mid after was.read bytes was.went f clean leaves)
 
     -- and at the end of the input
-    pub came_stops_last : (after : Option (List ℕ)) (f : List ℕ) → IsAtEnd left → IsHonest mid_log → LeavesPart effect changes keeping settled u s (text_in mid_log) (10 ∷ []) f mid after → Left f after
+    pub came_stops_last : (after : Option (List ℕ)) (f : List ℕ) → IsAtEnd left → IsHonest mid_log → LeavesPart effect changes mark keeping settled u s (text_in mid_log) (10 ∷ []) f mid after → Left f after
     came_stops_last after f at_end clean leaves =
-        of_all left was.read f after was.consumed at_end (leaves_next effect changes keeping settled v u (none_yet limit) s log mid_log before mid after was.read (10 ∷ []) was.went f clean leaves)
+        of_all left was.read f after was.consumed at_end (leaves_next effect changes mark keeping settled v u (none_yet limit) s log mid_log before mid after was.read (10 ∷ []) was.went f clean leaves)
 
     -- however the end of the input was served
-    pub came_ended : (w : A) (after : Option (List ℕ)) (r : Result (Log D g) (Ended D g)) (f : List ℕ) → IsAtEnd left → IfOk r (λ log_new. Ends effect changes keeping settled u s mid_log mid w log_new after)
-        → IfErr r (λ ended. IsTrue (g.is_clean (disk_ended ended)) → (c : List ℕ) → g.may_leave (disk_ended ended) c → LeavesPart effect changes keeping settled u s (text_in mid_log) (10 ∷ []) c mid after)
+    pub came_ended : (w : A) (after : Option (List ℕ)) (r : Result (Log D g) (Ended D g)) (f : List ℕ) → IsAtEnd left → IfOk r (λ log_new. Ends effect changes mark keeping settled u s mid_log mid w log_new after)
+        → IfErr r (λ ended. IsTrue (g.is_clean (disk_ended ended)) → (c : List ℕ) → g.may_leave (disk_ended ended) c → LeavesPart effect changes mark keeping settled u s (text_in mid_log) (10 ∷ []) c mid after)
         → (IsTrue (g.is_clean (disk_after r)) → IsHonest mid_log) → IsTrue (g.is_clean (disk_after r)) → g.may_leave (disk_after r) f → Left f after
     came_ended w after (Ok log_new) f at_end ends crash was_clean clean h = last ends.last ends.is all
       where
-        all : LeavesPart effect changes keeping settled v (none_yet limit) (text_in log) (was.read ++ ends.last) f before after
-        all = went_leaves effect changes keeping settled v w (none_yet limit) ends.end log log_new before after (was.read ++ ends.last) f
-            (went_more effect changes keeping settled v u (none_yet limit) s log mid_log before mid after was.read ends.last was.went w ends.end log_new ends.went) clean h
+        all : LeavesPart effect changes mark keeping settled v (none_yet limit) (text_in log) (was.read ++ ends.last) f before after
+        all = went_leaves effect changes mark keeping settled v w (none_yet limit) ends.end log log_new before after (was.read ++ ends.last) f
+            (went_more effect changes mark keeping settled v u (none_yet limit) s log mid_log before mid after was.read ends.last was.went w ends.end log_new ends.went) clean h
 
-        last : (l : List ℕ) → IsFeedOrNone l → LeavesPart effect changes keeping settled v (none_yet limit) (text_in log) (was.read ++ l) f before after → Left f after
-        last l (inl e) leaves = of_input left was.read f after was.consumed (subst (λ x. LeavesPart effect changes keeping settled v (none_yet limit) (text_in log) x f before after) (ap (λ x. was.read ++ x) e ∙ append-nil was.read) leaves)
-        last l (inr e) leaves = of_all left was.read f after was.consumed at_end (subst (λ x. LeavesPart effect changes keeping settled v (none_yet limit) (text_in log) (was.read ++ x) f before after) e leaves)
+        last : (l : List ℕ) → IsFeedOrNone l → LeavesPart effect changes mark keeping settled v (none_yet limit) (text_in log) (was.read ++ l) f before after → Left f after
+        last l (inl e) leaves = of_input left was.read f after was.consumed (subst (λ x. LeavesPart effect changes mark keeping settled v (none_yet limit) (text_in log) x f before after) (ap (λ x. was.read ++ x) e ∙ append-nil was.read) leaves)
+        last l (inr e) leaves = of_all left was.read f after was.consumed at_end (subst (λ x. LeavesPart effect changes mark keeping settled v (none_yet limit) (text_in log) (was.read ++ x) f before after) e leaves)
     came_ended w after (Err e) f at_end ends crash was_clean clean h = came_stops_last after f at_end (was_clean clean) (crash clean f h)
 
-    pub came_done : (w : A) (log_new : Log D g) (after : Option (List ℕ)) → IsAtEnd left → Ends effect changes keeping settled u s mid_log mid w log_new after
-        → IfSome first (λ bytes. Done effect changes keeping settled limit bytes v (text_in log) before w log_new after)
+    pub came_done : (w : A) (log_new : Log D g) (after : Option (List ℕ)) → IsAtEnd left → Ends effect changes mark keeping settled u s mid_log mid w log_new after
+        → IfSome first (λ bytes. Done effect changes mark keeping settled limit bytes v (text_in log) before w log_new after)
     came_done w log_new after at_end ends = on first left was.consumed at_end
       where
-        all : Went effect changes keeping settled v (none_yet limit) log before (was.read ++ ends.last) w ends.end log_new after
-        all = went_more effect changes keeping settled v u (none_yet limit) s log mid_log before mid after was.read ends.last was.went w ends.end log_new ends.went
+        all : Went effect changes mark keeping settled v (none_yet limit) log before (was.read ++ ends.last) w ends.end log_new after
+        all = went_more effect changes mark keeping settled v u (none_yet limit) s log mid_log before mid after was.read ends.last was.went w ends.end log_new ends.went
 
-        on : (x left : Option (List ℕ)) → Consumes x left was.read → IsAtEnd left → IfSome x (λ bytes. Done effect changes keeping settled limit bytes v (text_in log) before w log_new after)
+        on : (x left : Option (List ℕ)) → Consumes x left was.read → IsAtEnd left → IfSome x (λ bytes. Done effect changes mark keeping settled limit bytes v (text_in log) before w log_new after)
         on None left h e = tt
         on (Some bytes) None h e = absurd h
         on (Some bytes) (Some more) h e = record {

@@ -12,7 +12,7 @@ use Rattle.snap_log.proofs.GateLaws.{left_stands, left_opens}
 use Rattle.snap_lines.specs.Effects.{Effects}
 use Rattle.snap_lines.specs.Lines.{lines_of}
 use Rattle.snap_lines.proofs.KnownLaws.{Appends-nil, Appends-trans}
-use Rattle.snap_durable.specs.Parts.{Part, AreTold, IsTimely, LeavesPart, lines_to_keep, kept_of, whole_of}
+use Rattle.snap_durable.specs.Parts.{Part, AreTold, IsTimely, LeavesPart, kept_of, lines_added, whole_of}
 use Rattle.snap_durable.specs.Served.{AreAnswered, IsBegun, LeavesBatch, Went}
 use Rattle.snap_durable.specs.Serves.{Serves}
 use Rattle.snap_durable.proofs.BatchLaws.{whole_more, emptied_more, emptied_same, one_line}
@@ -29,12 +29,12 @@ same_text log clean = record {
   opens = left_opens _ _ _ (log.kept clean);
 }
 
-module _ {A : Type 0} (effect : Effects A) (changes : A → List ℕ → Bool) (keeping : Bool → A → A) (settled : A → Bool) where
-  pub told_more : (v u w : A) (ps qs : List Part) (text more kept after : List ℕ) → AreTold effect changes keeping settled v ps text kept u → AreTold effect changes keeping settled u qs more after w
-      → AreTold effect changes keeping settled v (ps ++ qs) (text ++ more) (kept ++ after) w
+module _ {A : Type 0} (effect : Effects A) (changes : A → List ℕ → Bool) (mark : A → List ℕ → List ℕ) (keeping : Bool → A → A) (settled : A → Bool) where
+  pub told_more : (v u w : A) (ps qs : List Part) (text more kept after : List ℕ) → AreTold effect changes mark keeping settled v ps text kept u → AreTold effect changes mark keeping settled u qs more after w
+      → AreTold effect changes mark keeping settled v (ps ++ qs) (text ++ more) (kept ++ after) w
   told_more v u w [] qs text more kept after (no_text, no_kept, same) next =
-      subst (λ t. AreTold effect changes keeping settled v qs (t ++ more) (kept ++ after) w) (sym no_text)
-      (subst (λ k. AreTold effect changes keeping settled v qs more (k ++ after) w) (sym no_kept) (subst (λ x. AreTold effect changes keeping settled x qs more after w) (sym same) next))
+      subst (λ t. AreTold effect changes mark keeping settled v qs (t ++ more) (kept ++ after) w) (sym no_text)
+      (subst (λ k. AreTold effect changes mark keeping settled v qs more (k ++ after) w) (sym no_kept) (subst (λ x. AreTold effect changes mark keeping settled x qs more after w) (sym same) next))
   told_more v u w (p ∷ ps) qs text more kept after (first, rest, later, x, serves, told, text_is, kept_is, timely) next = (
     first,
     rest ++ more,
@@ -43,25 +43,25 @@ module _ {A : Type 0} (effect : Effects A) (changes : A → List ℕ → Bool) (
     serves,
     told_more x u w ps qs rest more later after told next,
     ap (λ l. l ++ more) text_is ∙ append_assoc first rest more,
-    ap (λ l. l ++ after) kept_is ∙ append_assoc (kept_of (changes v) p) later after,
+    ap (λ l. l ++ after) kept_is ∙ append_assoc (kept_of (changes v) (mark v) p) later after,
     timely,
   )
 
-  pub told_one : (v w : A) (p : Part) (text : List ℕ) → Serves effect (keeping p.is_kept v) (lines_of p.whole) text w → IsTimely effect changes keeping settled v p → AreTold effect changes keeping settled v (p ∷ []) text (kept_of (changes v) p) w
-  told_one v w p text serves timely = (text, [], [], w, serves, (refl, refl, refl), sym (append-nil text), sym (append-nil (kept_of (changes v) p)), timely)
+  pub told_one : (v w : A) (p : Part) (text : List ℕ) → Serves effect (keeping p.is_kept v) (lines_of p.whole) text w → IsTimely effect changes mark keeping settled v p → AreTold effect changes mark keeping settled v (p ∷ []) text (kept_of (changes v) (mark v) p) w
+  told_one v w p text serves timely = (text, [], [], w, serves, (refl, refl, refl), sym (append-nil text), sym (append-nil (kept_of (changes v) (mark v) p)), timely)
 
   -- what a crash leaves where nothing was answered
-  pub leaves_kept : (v : A) (first whole f : List ℕ) (x : Option (List ℕ)) → IsBeforeOrAfter first (lines_to_keep (changes v) (lines_of whole)) f → LeavesBatch effect changes keeping v first whole f x x
+  pub leaves_kept : (v : A) (first whole f : List ℕ) (x : Option (List ℕ)) → IsBeforeOrAfter first (lines_added (changes v) (mark v) whole) f → LeavesBatch effect changes mark keeping v first whole f x x
   leaves_kept v first whole f x (inl e) = record { is_kept = false; stands = e ∙ sym (append-nil first); answered = inl refl }
   leaves_kept v first whole f x (inr e) = record { is_kept = true; stands = e; answered = inl refl }
 
   -- bytes of a value that is settled, or at most one
-  pub timely_of : (v : A) (s : Batched) (bytes : List ℕ) (k : Bool) → IsBegun s → (settled v ≡ true) ⊎ (length bytes ≤ 1) → IsTimely effect changes keeping settled v (record { whole = (batched s bytes).whole; is_kept = k })
+  pub timely_of : (v : A) (s : Batched) (bytes : List ℕ) (k : Bool) → IsBegun s → (settled v ≡ true) ⊎ (length bytes ≤ 1) → IsTimely effect changes mark keeping settled v (record { whole = (batched s bytes).whole; is_kept = k })
   timely_of v s bytes k begun (inl is) = inl is
   timely_of v s bytes k begun (inr low) = inr (one_line s bytes begun low)
 
   -- nothing of the bytes was taken
-  pub leaves_none : (v : A) (s : Batched) (first bytes f : List ℕ) (x : Option (List ℕ)) → log_text f ≡ first → LeavesPart effect changes keeping settled v s first bytes f x x
+  pub leaves_none : (v : A) (s : Batched) (first bytes f : List ℕ) (x : Option (List ℕ)) → log_text f ≡ first → LeavesPart effect changes mark keeping settled v s first bytes f x x
   leaves_none v s first bytes f x is = record {
     parts = [];
     text = [];
@@ -79,8 +79,8 @@ module _ {A : Type 0} (effect : Effects A) (changes : A → List ℕ → Bool) (
   }
 
   -- what a crash leaves of a part is what it leaves of its bytes
-  pub leaves_batch : (v : A) (s : Batched) (first bytes f : List ℕ) (before after : Option (List ℕ)) → LeavesBatch effect changes keeping v first (batched s bytes).whole f before after
-      → ((k : Bool) → IsTimely effect changes keeping settled v (record { whole = (batched s bytes).whole; is_kept = k })) → LeavesPart effect changes keeping settled v s first bytes f before after
+  pub leaves_batch : (v : A) (s : Batched) (first bytes f : List ℕ) (before after : Option (List ℕ)) → LeavesBatch effect changes mark keeping v first (batched s bytes).whole f before after
+      → ((k : Bool) → IsTimely effect changes mark keeping settled v (record { whole = (batched s bytes).whole; is_kept = k })) → LeavesPart effect changes mark keeping settled v s first bytes f before after
   leaves_batch v s first bytes f before after left timely = record {
     parts = [];
     text = [];
@@ -98,8 +98,8 @@ module _ {A : Type 0} (effect : Effects A) (changes : A → List ℕ → Bool) (
   }
 
   -- and of these with more behind them
-  pub leaves_more : (v : A) (s : Batched) (first bytes more f : List ℕ) (before after : Option (List ℕ)) → LeavesPart effect changes keeping settled v s first bytes f before after
-      → LeavesPart effect changes keeping settled v s first (bytes ++ more) f before after
+  pub leaves_more : (v : A) (s : Batched) (first bytes more f : List ℕ) (before after : Option (List ℕ)) → LeavesPart effect changes mark keeping settled v s first bytes f before after
+      → LeavesPart effect changes mark keeping settled v s first (bytes ++ more) f before after
   leaves_more v s first bytes more f before after left =
       let rest : List ℕ = (batched (emptied (batched s bytes)) more).whole in
       record {
@@ -120,7 +120,7 @@ module _ {A : Type 0} (effect : Effects A) (changes : A → List ℕ → Bool) (
 
   module _ {D : Type 0} {g : Ghosts D} where
     -- bytes without a whole line
-    pub went_none : (v : A) (s t : Batched) (log : Log D g) (x : Option (List ℕ)) (bytes : List ℕ) → t ≡ batched s bytes → t.whole ≡ [] → Went effect changes keeping settled v s log x bytes v t log x
+    pub went_none : (v : A) (s t : Batched) (log : Log D g) (x : Option (List ℕ)) (bytes : List ℕ) → t ≡ batched s bytes → t.whole ≡ [] → Went effect changes mark keeping settled v s log x bytes v t log x
     went_none v s t log x bytes is none =
         let no_line : (batched s bytes).whole ≡ [] = sym (ap (λ z. z.whole) is) ∙ none in
         record {
@@ -137,14 +137,14 @@ module _ {A : Type 0} (effect : Effects A) (changes : A → List ℕ → Bool) (
 
     -- one part
     pub went_part : (v w : A) (s t : Batched) (log log_new : Log D g) (before after : Option (List ℕ)) (bytes : List ℕ) (is_kept : Bool) → AreAnswered effect (keeping is_kept v) (batched s bytes).whole w before after
-        → t ≡ emptied (batched s bytes) → (IsHonest log_new → IsHonest log) → (IsHonest log_new → Keeps log_new (text_in log ++ kept_of (changes v) (record { whole = (batched s bytes).whole; is_kept = is_kept })))
-        → IsTimely effect changes keeping settled v (record { whole = (batched s bytes).whole; is_kept = is_kept }) → Went effect changes keeping settled v s log before bytes w t log_new after
+        → t ≡ emptied (batched s bytes) → (IsHonest log_new → IsHonest log) → (IsHonest log_new → Keeps log_new (text_in log ++ kept_of (changes v) (mark v) (record { whole = (batched s bytes).whole; is_kept = is_kept })))
+        → IsTimely effect changes mark keeping settled v (record { whole = (batched s bytes).whole; is_kept = is_kept }) → Went effect changes mark keeping settled v s log before bytes w t log_new after
     went_part v w s t log log_new before after bytes is_kept now is clean keeps timely =
         let p : Part = record { whole = (batched s bytes).whole; is_kept = is_kept } in
         record {
           parts = p ∷ [];
           text = now.text;
-          kept = kept_of (changes v) p;
+          kept = kept_of (changes v) (mark v) p;
           told = told_one v w p now.text now.serves timely;
           lines = sym (append-nil (batched s bytes).whole);
           held = is;
@@ -153,7 +153,7 @@ module _ {A : Type 0} (effect : Effects A) (changes : A → List ℕ → Bool) (
           keeps = keeps;
         }
 
-    module _ (v u : A) (s t : Batched) (log mid_log : Log D g) (before mid after : Option (List ℕ)) (a b : List ℕ) (was : Went effect changes keeping settled v s log before a u t mid_log mid) where
+    module _ (v u : A) (s t : Batched) (log mid_log : Log D g) (before mid after : Option (List ℕ)) (a b : List ℕ) (was : Went effect changes mark keeping settled v s log before a u t mid_log mid) where
       next_whole : (batched s (a ++ b)).whole ≡ whole_of was.parts ++ (batched t b).whole
       next_whole = whole_more s a b ∙ ap (λ l. l ++ (batched (emptied (batched s a)) b).whole) was.lines ∙ ap (λ z. whole_of was.parts ++ (batched z b).whole) (sym was.held)
 
@@ -161,7 +161,7 @@ module _ {A : Type 0} (effect : Effects A) (changes : A → List ℕ → Bool) (
       mid_text clean kept = ap (λ l. l ++ kept) (was.keeps clean).now ∙ append_assoc (text_in log) was.kept kept
 
       -- these bytes, and then others
-      pub went_more : (w : A) (z : Batched) (log_new : Log D g) → Went effect changes keeping settled u t mid_log mid b w z log_new after → Went effect changes keeping settled v s log before (a ++ b) w z log_new after
+      pub went_more : (w : A) (z : Batched) (log_new : Log D g) → Went effect changes mark keeping settled u t mid_log mid b w z log_new after → Went effect changes mark keeping settled v s log before (a ++ b) w z log_new after
       went_more w z log_new now = record {
         parts = was.parts ++ now.parts;
         text = was.text ++ now.text;
@@ -175,9 +175,9 @@ module _ {A : Type 0} (effect : Effects A) (changes : A → List ℕ → Bool) (
       }
 
       -- and what a crash leaves of the others
-      pub leaves_next : (f : List ℕ) → IsHonest mid_log → LeavesPart effect changes keeping settled u t (text_in mid_log) b f mid after → LeavesPart effect changes keeping settled v s (text_in log) (a ++ b) f before after
+      pub leaves_next : (f : List ℕ) → IsHonest mid_log → LeavesPart effect changes mark keeping settled u t (text_in mid_log) b f mid after → LeavesPart effect changes mark keeping settled v s (text_in log) (a ++ b) f before after
       leaves_next f clean left =
-          let last_kept : List ℕ = kept_of (changes left.value) left.last in
+          let last_kept : List ℕ = kept_of (changes left.value) (mark left.value) left.last in
           record {
             parts = was.parts ++ left.parts;
             text = was.text ++ left.text;
@@ -196,8 +196,8 @@ module _ {A : Type 0} (effect : Effects A) (changes : A → List ℕ → Bool) (
           }
 
     -- a crash behind these bytes
-    pub went_leaves : (v u : A) (s t : Batched) (log log_new : Log D g) (before after : Option (List ℕ)) (a f : List ℕ) → Went effect changes keeping settled v s log before a u t log_new after
-        → IsHonest log_new → g.may_leave log_new.disk f → LeavesPart effect changes keeping settled v s (text_in log) a f before after
+    pub went_leaves : (v u : A) (s t : Batched) (log log_new : Log D g) (before after : Option (List ℕ)) (a f : List ℕ) → Went effect changes mark keeping settled v s log before a u t log_new after
+        → IsHonest log_new → g.may_leave log_new.disk f → LeavesPart effect changes mark keeping settled v s (text_in log) a f before after
     went_leaves v u s t log log_new before after a f was clean left = record {
       parts = was.parts;
       text = was.text;

@@ -1,19 +1,20 @@
 -- A log gives back what it was kept of.
-use Rattle.std.proofs.Common.{◌≡◌, ◌⊎◌, inl, inr, ℕ, ◌≤◌, List, [], ◌∷◌, ◌++◌, length, Bool, true, false, Ok, refl, sym, ap, ◌∙◌, subst, arith, length-append}
+use Rattle.std.proofs.Common.{◌≡◌, ◌⊎◌, inl, inr, ℕ, ◌≤◌, List, [], ◌∷◌, ◌++◌, length, Bool, true, false, Ok, refl, sym, ap, ◌∙◌, subst, arith, append_assoc, length-append}
 use Rattle.std.specs.Prelude.{if◌then◌else◌}
 use Rattle.snap_lines.specs.Effects.{Effect, Effects}
-use Rattle.snap_lines.specs.Lines.{lines_of}
+use Rattle.snap_lines.specs.Lines.{is_open, lines_of}
+use Rattle.snap_lines.proofs.LineLaws.{line_split}
 use Rattle.snap_log.specs.Batches.{none_yet}
 use Rattle.snap_log.specs.Texts.{AreLines}
 use Rattle.snap_durable.specs.Laws.{KeepsPart}
-use Rattle.snap_durable.specs.Parts.{AreTold, IsTimely, Part, lines_to_keep, line_read, whole_in}
+use Rattle.snap_durable.specs.Parts.{AreTold, IsTimely, Part, lines_added, lines_to_keep, line_read, whole_in, with_mark}
 use Rattle.snap_durable.specs.Served.{IsReplayed, text_limit}
 use Rattle.snap_durable.specs.Serves.{Serves}
-use Rattle.snap_durable.proofs.LeadLaws.{Leads, kept_are, kept_lines, leads_of, leads_one, leads_split, read_again}
+use Rattle.snap_durable.proofs.LeadLaws.{Leads, kept_are, kept_lines, leads_of, leads_one, leads_split, read_again, read_open}
 use Rattle.snap_durable.proofs.BatchLaws.{IsWhole, lines_join, stays}
 use Rattle.snap_durable.proofs.WholeLaws.{whole_text}
 
-module _ {A P : Type 0} (effect : Effects A) (changes : A → List ℕ → Bool) (keeping : Bool → A → A) (settled : A → Bool) (part : A → P) (laws : KeepsPart effect changes keeping settled part) where
+module _ {A P : Type 0} (effect : Effects A) (changes : A → List ℕ → Bool) (mark : A → List ℕ → List ℕ) (keeping : Bool → A → A) (settled : A → Bool) (part : A → P) (laws : KeepsPart effect changes mark keeping settled part) where
   -- lines that change something are carried out, or refused
   abbrev Is : Bool → A → Type 0
   Is k v = keeping k v ≡ v
@@ -67,43 +68,183 @@ module _ {A P : Type 0} (effect : Effects A) (changes : A → List ℕ → Bool)
           let left : part e.value ≡ part v = laws.unchanged v r e (known_first told line lines v known ∙ is_told) p in
           next_ones e.value w u z next also (left ∙ same) (known_next told line lines v e known p) more rest
 
-  known_part : (v : A) (p : Part) → IsTimely effect changes keeping settled v p → Known (keeping true v) (changes v) (lines_of p.whole)
+  known_part : (v : A) (p : Part) → IsTimely effect changes mark keeping settled v p → Known (keeping true v) (changes v) (lines_of p.whole)
   known_part v p (inl is) = inr (λ line. laws.same_changes true v line, inl (laws.same_settled true v ∙ is))
   known_part v p (inr few) = inr (λ line. laws.same_changes true v line, inr few)
 
+  -- a line that changes nothing leads to the same part
+  first_leads : (m : List ℕ) (more : List (List ℕ)) (u z : A) → changes u (line_read m) ≡ false → Is true u → Leads effect u (m ∷ more) z → (e : Effect A) × (effect u (line_read m) ≡ Ok e) × (part e.value ≡ part u) × Is true e.value × Leads effect e.value more z
+  first_leads m more u z none also (e, p, rest) = (e, p, laws.unchanged u (line_read m) e none p, next_is true u (line_read m) e also p, rest)
+
+  -- what a part's mark makes of a value; where no line was added, there is none
+  abbrev Marks : A → List ℕ → A → A → Type 0
+  Marks v lines x y = ((lines ≡ []) × (y ≡ x)) ⊎ ((e : Effect A) × (effect x (line_read (mark v lines ++ 10 ∷ [])) ≡ Ok e) × (y ≡ e.value))
+
+  -- where lines are added with their mark, their own lines come first, and then this
+  added_leads : (v : A) (lines more : List ℕ) (own : List (List ℕ)) (u z : A) → ((rest : List ℕ) → lines_of (lines ++ rest) ≡ own ++ lines_of rest) → Is true u → Leads effect u (lines_of (with_mark (mark v) lines ++ more)) z
+      → (x y : A) × Leads effect u own x × (part y ≡ part x) × Is true y × Leads effect y (lines_of more) z × Marks v lines x y
+  added_leads v [] more own u z own_are also leads =
+      let cut = leads_split effect own (lines_of more) u z (subst (λ (ls : List (List ℕ)). Leads effect u ls z) (own_are more) leads) in
+      (cut.0, cut.0, cut.1, refl, leads_stay true own u cut.0 also cut.1, cut.2, inl (refl, refl))
+  added_leads v (b ∷ lines) more own u z own_are also leads =
+      let m : List ℕ = mark v (b ∷ lines) in
+      let split : lines_of (((b ∷ lines) ++ (m ++ 10 ∷ [])) ++ more) ≡ own ++ ((m ++ 10 ∷ []) ∷ lines_of more) =
+      ap lines_of (append_assoc (b ∷ lines) (m ++ 10 ∷ []) more ∙ ap (λ (l : List ℕ). (b ∷ lines) ++ l) (append_assoc m (10 ∷ []) more))
+      ∙ own_are (m ++ 10 ∷ more) ∙ ap (λ (ls : List (List ℕ)). own ++ ls) (line_split m more (laws.one_line v (b ∷ lines))) in
+      let cut = leads_split effect own ((m ++ 10 ∷ []) ∷ lines_of more) u z (subst (λ (ls : List (List ℕ)). Leads effect u ls z) split leads) in
+      let behind = first_leads (m ++ 10 ∷ []) (lines_of more) cut.0 z (laws.marks cut.0 v (b ∷ lines)) (leads_stay true own u cut.0 also cut.1) cut.2 in
+      (cut.0, behind.0.value, cut.1, behind.2, behind.3, behind.4, inr (behind.0, behind.1, refl))
+
   -- the lines that were kept of all parts lead to the same part as all lines that were answered
-  pub restarts : (parts : List Part) (v : A) (text kept : List ℕ) (w u z : A) → AreTold effect changes keeping settled v parts text kept w → Is true u → part v ≡ part u → Leads effect u (lines_of kept) z → part w ≡ part z
+  pub restarts : (parts : List Part) (v : A) (text kept : List ℕ) (w u z : A) → AreTold effect changes mark keeping settled v parts text kept w → Is true u → part v ≡ part u → Leads effect u (lines_of kept) z → part w ≡ part z
   restarts [] v text kept w u z (no_text, no_kept, led) also same leads = ap part (sym led) ∙ same ∙ ap part (subst (λ (l : List ℕ). Leads effect u (lines_of l) z) no_kept leads)
   restarts (p ∷ parts) v text kept w u z (first, rest, more, x, serves, told, text_is, kept_is, timely) also same leads = by (λ v text kept w u z. restarts parts v text kept w u z) p.is_kept refl
     where
       lines : List (List ℕ)
       lines = lines_of p.whole
 
-      by : ((v : A) (text kept : List ℕ) (w u z : A) → AreTold effect changes keeping settled v parts text kept w → Is true u → part v ≡ part u → Leads effect u (lines_of kept) z → part w ≡ part z)
+      by : ((v : A) (text kept : List ℕ) (w u z : A) → AreTold effect changes mark keeping settled v parts text kept w → Is true u → part v ≡ part u → Leads effect u (lines_of kept) z → part w ≡ part z)
           → (k : Bool) → p.is_kept ≡ k → part w ≡ part z
       by later true is =
           let led : Leads effect (keeping true v) lines x = leads_of effect (keeping true v) lines first x (subst (λ (k : Bool). Serves effect (keeping k v) lines first x) is serves) in
-          let kept_text : kept ≡ lines_to_keep (changes v) lines ++ more = kept_is ∙ ap (λ (k : Bool). (if k then lines_to_keep (changes v) lines else []) ++ more) is in
-          let all : Leads effect u (kept_lines (changes v) lines ++ lines_of more) z = subst (λ (ls : List (List ℕ)). Leads effect u ls z) (ap lines_of kept_text ∙ kept_are (changes v) lines more) leads in
-          let cut = leads_split effect (kept_lines (changes v) lines) (lines_of more) u z all in
-          let here : part x ≡ part cut.0 = kept_leads (changes v) lines (keeping true v) x u cut.0 (laws.again true v) also (laws.same true v ∙ same) (known_part v p timely) led cut.1 in
-          later x rest more w cut.0 z told (leads_stay true (kept_lines (changes v) lines) u cut.0 also cut.1) here cut.2
+          let kept_text : kept ≡ lines_added (changes v) (mark v) p.whole ++ more = kept_is ∙ ap (λ (k : Bool). (if k then lines_added (changes v) (mark v) p.whole else []) ++ more) is in
+          let all : Leads effect u (lines_of (lines_added (changes v) (mark v) p.whole ++ more)) z = subst (λ (l : List ℕ). Leads effect u (lines_of l) z) kept_text leads in
+          let cut = added_leads v (lines_to_keep (changes v) lines) more (kept_lines (changes v) lines) u z (kept_are (changes v) lines) also all in
+          let here : part x ≡ part cut.0 = kept_leads (changes v) lines (keeping true v) x u cut.0 (laws.again true v) also (laws.same true v ∙ same) (known_part v p timely) led cut.2 in
+          later x rest more w cut.1 z told cut.4 (here ∙ sym cut.3) cut.5
       by later false is =
           let led : Leads effect (keeping false v) lines x = leads_of effect (keeping false v) lines first x (subst (λ (k : Bool). Serves effect (keeping k v) lines first x) is serves) in
-          let kept_text : kept ≡ more = kept_is ∙ ap (λ (k : Bool). (if k then lines_to_keep (changes v) lines else []) ++ more) is in
+          let kept_text : kept ≡ more = kept_is ∙ ap (λ (k : Bool). (if k then lines_added (changes v) (mark v) p.whole else []) ++ more) is in
           let here : part x ≡ part u = refused_leads lines (keeping false v) x (laws.again false v) led ∙ laws.same false v ∙ same in
           later x rest more w u z told also here (subst (λ (l : List ℕ). Leads effect u (lines_of l) z) kept_text leads)
 
-  -- a log that was replayed and then kept lines of an input gives back what these led to
-  pub gives_back : (first text kept : List ℕ) (parts : List Part) (idle begun v w z : A) → Is true idle → IsReplayed effect idle first begun → part v ≡ part begun → AreTold effect changes keeping settled v parts text kept w
-      → AreLines first → AreLines (first ++ kept) → length (first ++ kept) ≤ text_limit → IsReplayed effect idle (first ++ kept) z → part w ≡ part z
-  gives_back first text kept parts idle begun v w z idles was same told lines all low now =
-      let first_low : length first ≤ text_limit = omega (arith, low, length-append first kept) in
+  -- nothing, or one line that changes nothing
+  abbrev pub Begins : List ℕ → Type 0
+  Begins start = (start ≡ []) ⊎ ((m : List ℕ) × (start ≡ m ++ 10 ∷ []) × (is_open m ≡ true) × ((u : A) → changes u (line_read (m ++ 10 ∷ [])) ≡ false))
+
+  -- what these make of a value
+  abbrev pub Passes : List ℕ → A → A → Type 0
+  Passes start u x = ((start ≡ []) × (u ≡ x)) ⊎ ((m : List ℕ) × (e : Effect A) × (start ≡ m ++ 10 ∷ []) × (effect u (line_read (m ++ 10 ∷ [])) ≡ Ok e) × (e.value ≡ x))
+
+  -- what leads from a log that was replayed over further lines
+  record GoesOn (start kept : List ℕ) (u z : A) : Type 0 where
+    value : A
+    same : part value ≡ part u
+    also : Is true value
+    leads : Leads effect value (lines_of kept) z
+    passed : Passes start u value
+
+  passes : (start kept : List ℕ) (u z : A) → Begins start → Is true u → Leads effect u (lines_of (start ++ kept)) z → GoesOn start kept u z
+  passes start kept u z (inl none) also leads = record { value = u; same = refl; also = also; leads = subst (λ (l : List ℕ). Leads effect u (lines_of (l ++ kept)) z) none leads; passed = inl (none, refl) }
+  passes start kept u z (inr (m, is, one, none)) also leads =
+      let split : lines_of (start ++ kept) ≡ (m ++ 10 ∷ []) ∷ lines_of kept = ap (λ (l : List ℕ). lines_of (l ++ kept)) is ∙ ap lines_of (append_assoc m (10 ∷ []) kept) ∙ line_split m kept one in
+      let behind = first_leads (m ++ 10 ∷ []) (lines_of kept) u z (none u) also (subst (λ (ls : List (List ℕ)). Leads effect u ls z) split leads) in
+      record { value = behind.0.value; same = behind.2; also = behind.3; leads = behind.4; passed = inr (m, behind.0, is, behind.1, refl) }
+
+  -- a log that was replayed, with further lines
+  goes_on : (first start kept : List ℕ) (idle begun z : A) → Is true idle → IsReplayed effect idle first begun → Begins start → AreLines first → AreLines ((first ++ start) ++ kept) → length ((first ++ start) ++ kept) ≤ text_limit
+      → IsReplayed effect idle ((first ++ start) ++ kept) z → GoesOn start kept begun z
+  goes_on first start kept idle begun z idles was begins lines all low now =
+      let first_low : length first ≤ text_limit = omega (arith, low, length-append first start, length-append (first ++ start) kept) in
       let first_is : whole_in text_limit first ≡ first = whole_text text_limit first lines first_low in
-      let all_is : whole_in text_limit (first ++ kept) ≡ first ++ kept = whole_text text_limit (first ++ kept) all low in
+      let all_is : whole_in text_limit ((first ++ start) ++ kept) ≡ first ++ (start ++ kept) = whole_text text_limit ((first ++ start) ++ kept) all low ∙ append_assoc first start kept in
       let led : Leads effect idle (lines_of first) begun = subst (λ (l : List ℕ). Leads effect idle (lines_of l) begun) first_is (leads_of effect idle (lines_of (whole_in text_limit first)) was.answers begun was.serves) in
       let whole : IsWhole first = subst IsWhole first_is (stays (none_yet text_limit) first (inl refl)) in
-      let both : Leads effect idle (lines_of first ++ lines_of kept) z = subst (λ (ls : List (List ℕ)). Leads effect idle ls z) (ap lines_of all_is ∙ lines_join first kept whole) (leads_of effect idle (lines_of (whole_in text_limit (first ++ kept))) now.answers z now.serves) in
-      let cut = leads_split effect (lines_of first) (lines_of kept) idle z both in
-      let here : begun ≡ cut.0 = leads_one effect (lines_of first) idle begun cut.0 led cut.1 in
-      restarts parts v text kept w cut.0 z told (leads_stay true (lines_of first) idle cut.0 idles cut.1) (same ∙ ap part here) cut.2
+      let both : Leads effect idle (lines_of first ++ lines_of (start ++ kept)) z = subst (λ (ls : List (List ℕ)). Leads effect idle ls z) (ap lines_of all_is ∙ lines_join first (start ++ kept) whole) (leads_of effect idle (lines_of (whole_in text_limit ((first ++ start) ++ kept))) now.answers z now.serves) in
+      let cut = leads_split effect (lines_of first) (lines_of (start ++ kept)) idle z both in
+      let here : cut.0 ≡ begun = leads_one effect (lines_of first) idle cut.0 begun cut.1 led in
+      passes start kept begun z begins (subst (Is true) here (leads_stay true (lines_of first) idle cut.0 idles cut.1)) (subst (λ (x : A). Leads effect x (lines_of (start ++ kept)) z) here cut.2)
+
+  -- a log that was replayed and then kept lines of an input gives back what these led to
+  pub gives_back : (first start text kept : List ℕ) (parts : List Part) (idle begun v w z : A) → Is true idle → IsReplayed effect idle first begun → Begins start → part v ≡ part begun → AreTold effect changes mark keeping settled v parts text kept w
+      → AreLines first → AreLines ((first ++ start) ++ kept) → length ((first ++ start) ++ kept) ≤ text_limit → IsReplayed effect idle ((first ++ start) ++ kept) z → part w ≡ part z
+  gives_back first start text kept parts idle begun v w z idles was begins same told lines all low now =
+      let go = goes_on first start kept idle begun z idles was begins lines all low now in
+      restarts parts v text kept w go.value z told go.also (same ∙ sym go.same) go.leads
+
+  -- ---- what is found by marks
+
+  -- the lines that change something, without their line feeds
+  abbrev pub reads : (List ℕ → Bool) → List (List ℕ) → List (List ℕ)
+  reads told [] = []
+  reads told (line ∷ lines) = if told (line_read line) then line_read line ∷ reads told lines else reads told lines
+
+  abbrev pub joined : List (List ℕ) → List ℕ
+  joined [] = []
+  joined (r ∷ rs) = (r ++ 10 ∷ []) ++ joined rs
+
+  kept_joined : (told : List ℕ → Bool) (lines : List (List ℕ)) → lines_to_keep told lines ≡ joined (reads told lines)
+  kept_joined told [] = refl
+  kept_joined told (line ∷ lines) = by (told (line_read line)) (kept_joined told lines)
+    where
+      by : (t : Bool) → lines_to_keep told lines ≡ joined (reads told lines) → (if t then (line_read line ++ 10 ∷ []) ++ lines_to_keep told lines else lines_to_keep told lines) ≡ joined (if t then line_read line ∷ reads told lines else reads told lines)
+      by true same = ap (λ (l : List ℕ). (line_read line ++ 10 ∷ []) ++ l) same
+      by false same = same
+
+  -- lines that each change something lead from one value to the other
+  abbrev pub Adds : A → List (List ℕ) → A → Type 0
+  Adds u [] x = u ≡ x
+  Adds u (r ∷ rs) x = (e : Effect A) × (is_open r ≡ true) × (changes u r ≡ true) × (effect u r ≡ Ok e) × Adds e.value rs x
+
+  module _ (alike_changes : (v w : A) (line : List ℕ) → part v ≡ part w → changes v line ≡ changes w line) (Sound : A → Type 0)
+      (sounds : (v u x : A) (rs : List (List ℕ)) (e : Effect A) → part v ≡ part u → Is true u → Sound u → Adds u rs x → effect x (line_read (mark v (joined rs) ++ 10 ∷ [])) ≡ Ok e → Sound e.value) where
+    kept_adds : (told : List ℕ → Bool) (lines : List (List ℕ)) (v w u z : A) → Is true v → Is true u → part v ≡ part u → Known v told lines → Leads effect v lines w → Leads effect u (kept_lines told lines) z → Adds u (reads told lines) z
+    kept_adds told [] v w u z is also same known leads kept = kept
+    kept_adds told (line ∷ lines) v w u z is also same known (e, p, more) kept = by (λ v w u z. kept_adds told lines v w u z) (told r) refl kept
+      where
+        r : List ℕ
+        r = line_read line
+
+        next : Is true e.value
+        next = next_is true v r e is p
+
+        by : ((v w u z : A) → Is true v → Is true u → part v ≡ part u → Known v told lines → Leads effect v lines w → Leads effect u (kept_lines told lines) z → Adds u (reads told lines) z)
+            → (t : Bool) → told r ≡ t → Leads effect u (if t then (r ++ 10 ∷ []) ∷ kept_lines told lines else kept_lines told lines) z → Adds u (if t then r ∷ reads told lines else reads told lines) z
+        by next_ones true is_told (f, q, rest) =
+            let q_is : effect u r ≡ Ok f = ap (λ x. effect u x) (sym (read_again line)) ∙ q in
+            let alike : part e.value ≡ part f.value = laws.alike v u r e f same (effect_on true v r e is p) (effect_on true u r f also q_is) in
+            let change : changes u r ≡ true = sym (alike_changes v u r same) ∙ known_first told line lines v known ∙ is_told in
+            (f, read_open line, change, q_is, next_ones e.value w f.value z next (next_is true u r f also q_is) alike (known_next told line lines v e known p) more rest)
+        by next_ones false is_told rest =
+            let left : part e.value ≡ part v = laws.unchanged v r e (known_first told line lines v known ∙ is_told) p in
+            next_ones e.value w u z next also (left ∙ same) (known_next told line lines v e known p) more rest
+
+    -- a part's lines and its mark
+    sound_next : (v u x y : A) (rs : List (List ℕ)) (lines : List ℕ) → lines ≡ joined rs → part v ≡ part u → Is true u → Sound u → Adds u rs x → Marks v lines x y → Sound y
+    sound_next v u x y rs lines is same also sound adds (inr (e, p, y_is)) =
+        subst Sound (sym y_is) (sounds v u x rs e same also sound adds (ap (λ (l : List ℕ). effect x (line_read (mark v l ++ 10 ∷ []))) (sym is) ∙ p))
+    sound_next v u x y [] lines is same also sound adds (inl (none, y_is)) = subst Sound (adds ∙ sym y_is) sound
+    sound_next v u x y ([] ∷ rs) lines is same also sound adds (inl (none, y_is)) = absurd (cc)
+    sound_next v u x y ((b ∷ r) ∷ rs) lines is same also sound adds (inl (none, y_is)) = absurd (cc)
+
+    -- the marks that were kept of all parts agree with the lines that were
+    pub restarts_sound : (parts : List Part) (v : A) (text kept : List ℕ) (w u z : A) → AreTold effect changes mark keeping settled v parts text kept w → Is true u → part v ≡ part u → Sound u → Leads effect u (lines_of kept) z → Sound z
+    restarts_sound [] v text kept w u z (no_text, no_kept, led) also same sound leads = subst Sound (subst (λ (l : List ℕ). Leads effect u (lines_of l) z) no_kept leads) sound
+    restarts_sound (p ∷ parts) v text kept w u z (first, rest, more, x, serves, told, text_is, kept_is, timely) also same sound leads = by (λ v text kept w u z. restarts_sound parts v text kept w u z) p.is_kept refl
+      where
+        lines : List (List ℕ)
+        lines = lines_of p.whole
+
+        by : ((v : A) (text kept : List ℕ) (w u z : A) → AreTold effect changes mark keeping settled v parts text kept w → Is true u → part v ≡ part u → Sound u → Leads effect u (lines_of kept) z → Sound z)
+            → (k : Bool) → p.is_kept ≡ k → Sound z
+        by later true is =
+            let led : Leads effect (keeping true v) lines x = leads_of effect (keeping true v) lines first x (subst (λ (k : Bool). Serves effect (keeping k v) lines first x) is serves) in
+            let kept_text : kept ≡ lines_added (changes v) (mark v) p.whole ++ more = kept_is ∙ ap (λ (k : Bool). (if k then lines_added (changes v) (mark v) p.whole else []) ++ more) is in
+            let all : Leads effect u (lines_of (lines_added (changes v) (mark v) p.whole ++ more)) z = subst (λ (l : List ℕ). Leads effect u (lines_of l) z) kept_text leads in
+            let cut = added_leads v (lines_to_keep (changes v) lines) more (kept_lines (changes v) lines) u z (kept_are (changes v) lines) also all in
+            let known : Known (keeping true v) (changes v) lines = known_part v p timely in
+            let here : part x ≡ part cut.0 = kept_leads (changes v) lines (keeping true v) x u cut.0 (laws.again true v) also (laws.same true v ∙ same) known led cut.2 in
+            let adds : Adds u (reads (changes v) lines) cut.0 = kept_adds (changes v) lines (keeping true v) x u cut.0 (laws.again true v) also (laws.same true v ∙ same) known led cut.2 in
+            later x rest more w cut.1 z told cut.4 (here ∙ sym cut.3) (sound_next v u cut.0 cut.1 (reads (changes v) lines) (lines_to_keep (changes v) lines) (kept_joined (changes v) lines) same also sound adds cut.6) cut.5
+        by later false is =
+            let led : Leads effect (keeping false v) lines x = leads_of effect (keeping false v) lines first x (subst (λ (k : Bool). Serves effect (keeping k v) lines first x) is serves) in
+            let kept_text : kept ≡ more = kept_is ∙ ap (λ (k : Bool). (if k then lines_added (changes v) (mark v) p.whole else []) ++ more) is in
+            let here : part x ≡ part u = refused_leads lines (keeping false v) x (laws.again false v) led ∙ laws.same false v ∙ same in
+            later x rest more w u z told also here sound (subst (λ (l : List ℕ). Leads effect u (lines_of l) z) kept_text leads)
+
+    -- a log that was replayed and then kept lines of an input has marks that agree
+    pub gives_sound : (first start text kept : List ℕ) (parts : List Part) (idle begun v w z : A) → Is true idle → IsReplayed effect idle first begun → Begins start → part v ≡ part begun → AreTold effect changes mark keeping settled v parts text kept w
+        → AreLines first → AreLines ((first ++ start) ++ kept) → length ((first ++ start) ++ kept) ≤ text_limit → IsReplayed effect idle ((first ++ start) ++ kept) z → ((x : A) → Passes start begun x → Sound x) → Sound z
+    gives_sound first start text kept parts idle begun v w z idles was begins same told lines all low now sound =
+        let go = goes_on first start kept idle begun z idles was begins lines all low now in
+        restarts_sound parts v text kept w go.value z told go.also (same ∙ sym go.same) (sound go.value go.passed) go.leads

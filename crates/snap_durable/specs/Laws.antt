@@ -1,9 +1,11 @@
 -- What a log gives back: the laws by which the lines that it keeps lead to the same as all that were answered.
-use Rattle.std.specs.Prelude.{◌≡◌, ℕ, Bool, true, false, List, Ok}
+use Rattle.std.specs.Prelude.{◌≡◌, ℕ, Bool, true, false, List, [], ◌∷◌, ◌++◌, Ok}
 use Rattle.snap_lines.specs.Effects.{Effect, Effects}
+use Rattle.snap_lines.specs.Lines.{is_open}
+use Rattle.snap_durable.specs.Parts.{line_read}
 
 -- a part of a value, which a log is kept of: only lines that change something, and are carried out, change it
-pub record KeepsPart {A P : Type 0} (effect : Effects A) (changes : A → List ℕ → Bool) (keeping : Bool → A → A) (settled : A → Bool) (part : A → P) : Type 0 where
+pub record KeepsPart {A P : Type 0} (effect : Effects A) (changes : A → List ℕ → Bool) (mark : A → List ℕ → List ℕ) (keeping : Bool → A → A) (settled : A → Bool) (part : A → P) : Type 0 where
   -- no line has a fault
   pub served : (v : A) (line : List ℕ) → (e : Effect A) × (effect v line ≡ Ok e)
   -- whether such lines are carried out says nothing of the part nor of which lines they are, and no line changes it
@@ -20,3 +22,6 @@ pub record KeepsPart {A P : Type 0} (effect : Effects A) (changes : A → List �
   -- where a value is settled, the lines that change something stay the same ones
   pub settles : (v : A) (line : List ℕ) (e : Effect A) → settled v ≡ true → effect v line ≡ Ok e → settled e.value ≡ true
   pub known : (v : A) (line more : List ℕ) (e : Effect A) → settled v ≡ true → effect v line ≡ Ok e → changes e.value more ≡ changes v more
+  -- a mark is one line, and changes nothing
+  pub one_line : (v : A) (lines : List ℕ) → is_open (mark v lines) ≡ true
+  pub marks : (v w : A) (lines : List ℕ) → changes v (line_read (mark w lines ++ 10 ∷ [])) ≡ false

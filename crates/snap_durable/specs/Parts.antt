@@ -31,6 +31,10 @@ abbrev pub is_odd : (List ℕ → Bool) → List (List ℕ) → Bool
 is_odd changes [] = false
 is_odd changes (line ∷ lines) = (changes (line_read line) && not (is_line (line_read line))) || is_odd changes lines
 
+-- one of them, or their mark, is no line of a log
+abbrev pub IsNoLine : (List ℕ → Bool) → (List ℕ → List ℕ) → List ℕ → Type 0
+IsNoLine changes mark whole = (is_odd changes (lines_of whole) ≡ true) ⊎ (is_line (mark (lines_to_keep changes (lines_of whole))) ≡ false)
+
 -- whole lines that came together, and whether those that change something were kept
 pub record Part : Type 0 where
   pub whole : List ℕ
@@ -41,11 +45,20 @@ abbrev pub whole_of : List Part → List ℕ
 whole_of [] = []
 whole_of (p ∷ parts) = p.whole ++ whole_of parts
 
--- the lines of a part that were kept, by what changes something where it came
-abbrev pub kept_of : (List ℕ → Bool) → Part → List ℕ
-kept_of changes p = if p.is_kept then lines_to_keep changes (lines_of p.whole) else []
+-- lines with the mark behind them; where there are none, there is no mark
+abbrev pub with_mark : (List ℕ → List ℕ) → List ℕ → List ℕ
+with_mark mark [] = []
+with_mark mark (b ∷ lines) = (b ∷ lines) ++ (mark (b ∷ lines) ++ 10 ∷ [])
 
-module _ {A : Type 0} (effect : Effects A) (changes : A → List ℕ → Bool) (keeping : Bool → A → A) (settled : A → Bool) where
+-- what is added of whole lines: those that change something, and a mark
+abbrev pub lines_added : (List ℕ → Bool) → (List ℕ → List ℕ) → List ℕ → List ℕ
+lines_added changes mark whole = with_mark mark (lines_to_keep changes (lines_of whole))
+
+-- what was added of a part, if that was kept, by what changes something and which mark there is where it came
+abbrev pub kept_of : (List ℕ → Bool) → (List ℕ → List ℕ) → Part → List ℕ
+kept_of changes mark p = if p.is_kept then lines_added changes mark p.whole else []
+
+module _ {A : Type 0} (effect : Effects A) (changes : A → List ℕ → Bool) (mark : A → List ℕ → List ℕ) (keeping : Bool → A → A) (settled : A → Bool) where
   -- which lines of a part change something could be told before it: they stay the same ones, or it has one line
   abbrev pub IsTimely : A → Part → Type 0
   IsTimely v p = (settled v ≡ true) ⊎ (length (lines_of p.whole) ≤ 1)
@@ -54,7 +67,7 @@ module _ {A : Type 0} (effect : Effects A) (changes : A → List ℕ → Bool) (
   abbrev pub AreTold : A → List Part → List ℕ → List ℕ → A → Type 0
   AreTold v [] text kept w = (text ≡ []) × (kept ≡ []) × (v ≡ w)
   AreTold v (p ∷ parts) text kept w = (first rest more : List ℕ) × (u : A) × Serves effect (keeping p.is_kept v) (lines_of p.whole) first u × AreTold u parts rest more w
-      × (text ≡ first ++ rest) × (kept ≡ kept_of (changes v) p ++ more) × IsTimely v p
+      × (text ≡ first ++ rest) × (kept ≡ kept_of (changes v) (mark v) p ++ more) × IsTimely v p
 
   -- What a crash leaves of the lines in some bytes that come after those of a state: all lines of some parts were answered, and those of them that were kept are in the file. Of the part behind them, if one had begun, all lines that change something are there or none, and some may have been answered.
   pub record LeavesPart (v : A) (s : Batched) (first : List ℕ) (bytes file : List ℕ) (before after : Option (List ℕ)) : Type 0 where
@@ -67,7 +80,7 @@ module _ {A : Type 0} (effect : Effects A) (changes : A → List ℕ → Bool) (
     pub timely : IsTimely value last
     pub more : List ℕ
     pub lines : (batched s bytes).whole ≡ whole_of parts ++ (last.whole ++ more)
-    pub stands : log_text file ≡ first ++ (kept ++ kept_of (changes value) last)
+    pub stands : log_text file ≡ first ++ (kept ++ kept_of (changes value) (mark value) last)
     pub between : Option (List ℕ)
     pub written : Appends before between text
     pub answered : (after ≡ between) ⊎ ((left : Option (List ℕ)) × (stop : Stop) × Stops None effect (keeping last.is_kept value) last.whole left stop between after)

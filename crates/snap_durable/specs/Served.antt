@@ -32,9 +32,9 @@ pub record AreAnswered {A : Type 0} (effect : Effects A) (v : A) (whole : List �
   pub written : Appends before after text
 
 -- what a crash leaves of a part: all of its lines that change something are in the file or none; and some may have been answered, where they could be kept or were refused
-pub record LeavesBatch {A : Type 0} (effect : Effects A) (changes : A → List ℕ → Bool) (keeping : Bool → A → A) (v : A) (first whole file : List ℕ) (before after : Option (List ℕ)) : Type 0 where
+pub record LeavesBatch {A : Type 0} (effect : Effects A) (changes : A → List ℕ → Bool) (mark : A → List ℕ → List ℕ) (keeping : Bool → A → A) (v : A) (first whole file : List ℕ) (before after : Option (List ℕ)) : Type 0 where
   pub is_kept : Bool
-  pub stands : log_text file ≡ first ++ kept_of (changes v) (record { whole = whole; is_kept = is_kept })
+  pub stands : log_text file ≡ first ++ kept_of (changes v) (mark v) (record { whole = whole; is_kept = is_kept })
   pub answered : (after ≡ before) ⊎ ((left : Option (List ℕ)) × (stop : Stop) × Stops None effect (keeping is_kept v) whole left stop before after)
 
 -- the disk where lines were kept, or not
@@ -42,13 +42,13 @@ abbrev pub disk_kept : {D : Type 0} {g : Ghosts D} → Result (Kept D g) (Ended 
 disk_kept (Ok kept) = disk_of kept.log
 disk_kept (Err ended) = disk_ended ended
 
-module _ {A D : Type 0} {g : Ghosts D} (effect : Effects A) (changes : A → List ℕ → Bool) (keeping : Bool → A → A) (settled : A → Bool) where
+module _ {A D : Type 0} {g : Ghosts D} (effect : Effects A) (changes : A → List ℕ → Bool) (mark : A → List ℕ → List ℕ) (keeping : Bool → A → A) (settled : A → Bool) where
   -- the lines in some bytes were answered in parts, and the log has those that were kept; the line that has begun is held back
   pub record Went (v : A) (s : Batched) (log : Log D g) (before : Option (List ℕ)) (bytes : List ℕ) (w : A) (t : Batched) (log_new : Log D g) (after : Option (List ℕ)) : Type 0 where
     pub parts : List Part
     pub text : List ℕ
     pub kept : List ℕ
-    pub told : AreTold effect changes keeping settled v parts text kept w
+    pub told : AreTold effect changes mark keeping settled v parts text kept w
     pub lines : (batched s bytes).whole ≡ whole_of parts
     pub held : t ≡ emptied (batched s bytes)
     pub written : Appends before after text
@@ -69,7 +69,7 @@ module _ {A D : Type 0} {g : Ghosts D} (effect : Effects A) (changes : A → Lis
     pub parts : List Part
     pub text : List ℕ
     pub kept : List ℕ
-    pub told : AreTold effect changes keeping settled v parts text kept w
+    pub told : AreTold effect changes mark keeping settled v parts text kept w
     pub lines : whole_in limit (bytes ++ last) ≡ whole_of parts
     pub written : Appends before after text
     pub keeps : IsHonest log_new → Keeps log_new (first ++ kept)

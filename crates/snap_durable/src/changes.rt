@@ -1,6 +1,6 @@
 // The lines that change something among those of a part.
-ghost use Rattle.std.specs.Prelude.{◌≡◌, ◌<◌, ◌++◌, ◌∷◌, true, false, length, take, ℕ, List, IfOk, IsTrue};
-ghost use Rattle.snap_durable.specs.Parts.{lines_to_keep, is_odd, line_limit, line_read};
+ghost use Rattle.std.specs.Prelude.{◌≡◌, ◌<◌, ◌++◌, ◌∷◌, [], true, false, length, take, ℕ, List, IfOk, IsTrue};
+ghost use Rattle.snap_durable.specs.Parts.{IsNoLine, lines_added, lines_to_keep, is_odd, line_limit, line_read};
 ghost use Rattle.snap_lines.specs.Lines.{lines_of};
 
 use crate::chunk::LIMIT;
@@ -38,7 +38,7 @@ fn first_line(bytes: &[u8]) -> (&[u8], &[u8])
 }
 
 // Adds the lines that change something, and answers whether all of them are there: each has to begin with an open brace.
-pub(crate) fn add_changes<T: KeepLine>(
+fn add_changes<T: KeepLine>(
     alloc: Global,
     taker: &mut T,
     whole: &[u8],
@@ -58,4 +58,25 @@ pub(crate) fn add_changes<T: KeepLine>(
         rest = more;
     }
     Ok(are_there)
+}
+
+// Adds the lines that change something, and the mark behind them, if there are any, and answers whether all of them are
+// there.
+pub(crate) fn add_lines<T: KeepLine>(
+    alloc: Global,
+    taker: &mut T,
+    whole: &[u8],
+    added: &mut Lines,
+) -> Result<bool, NoMemory>
+    requires none { added.old ≡ [] }
+    ensures added { IfOk result (λ are_there. IsTrue are_there → added.new ≡ lines_added (T.changes taker.old) (T.mark taker.old) whole.now) }
+    ensures odd { IfOk result (λ are_there. are_there ≡ false → IsNoLine (T.changes taker.old) (T.mark taker.old) whole.now) }
+    ensures same { taker.new ≡ taker.old }
+{
+    let are_there = add_changes(alloc, taker, whole, added)?;
+    if !are_there || added.as_slice().is_empty() {
+        return Ok(are_there);
+    }
+    let mark = taker.mark_behind(alloc, added.as_slice())?;
+    Ok(added.push(mark.as_slice())?)
 }

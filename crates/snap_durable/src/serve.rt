@@ -25,9 +25,9 @@ fn take_part<T: KeepLine, W: Write, D: Disk>(
 ) -> Result<Log<D>, Ended<D>>
     requires begun { IsBegun batch.old }
     requires timely { (T.settled taker.old ≡ true) ⊎ (length bytes.now ≤ 1) }
-    ensures went { IfOk result (λ log_new. Went T.TakeLine.effect T.changes T.keeping T.settled taker.old batch.old log (W.contents output.old) bytes.now taker.new batch.new log_new (W.contents output.new)) }
+    ensures went { IfOk result (λ log_new. Went T.TakeLine.effect T.changes T.mark T.keeping T.settled taker.old batch.old log (W.contents output.old) bytes.now taker.new batch.new log_new (W.contents output.new)) }
     ensures crash { IfErr result (λ ended. IsTrue (D.Disk.is_clean (disk_ended ended)) → (c : List ℕ) → D.Disk.may_leave (disk_ended ended) c
-        → LeavesPart T.TakeLine.effect T.changes T.keeping T.settled taker.old batch.old (text_in log) bytes.now c (W.contents output.old) (W.contents output.new)) }
+        → LeavesPart T.TakeLine.effect T.changes T.mark T.keeping T.settled taker.old batch.old (text_in log) bytes.now c (W.contents output.old) (W.contents output.new)) }
     ensures clean { IsTrue (D.Disk.is_clean (disk_after result)) → IsHonest log }
 {
     if let Err(refused) = batch.take(bytes) {
@@ -55,9 +55,9 @@ fn take_read<T: KeepLine, W: Write, D: Disk>(
     output: &mut W,
 ) -> Result<Log<D>, Ended<D>>
     requires { IsBegun batch.old }
-    ensures went { IfOk result (λ log_new. Went T.TakeLine.effect T.changes T.keeping T.settled taker.old batch.old log (W.contents output.old) bytes.now taker.new batch.new log_new (W.contents output.new)) }
+    ensures went { IfOk result (λ log_new. Went T.TakeLine.effect T.changes T.mark T.keeping T.settled taker.old batch.old log (W.contents output.old) bytes.now taker.new batch.new log_new (W.contents output.new)) }
     ensures crash { IfErr result (λ ended. IsTrue (D.Disk.is_clean (disk_ended ended)) → (c : List ℕ) → D.Disk.may_leave (disk_ended ended) c
-        → LeavesPart T.TakeLine.effect T.changes T.keeping T.settled taker.old batch.old (text_in log) bytes.now c (W.contents output.old) (W.contents output.new)) }
+        → LeavesPart T.TakeLine.effect T.changes T.mark T.keeping T.settled taker.old batch.old (text_in log) bytes.now c (W.contents output.old) (W.contents output.new)) }
     ensures clean { IsTrue (D.Disk.is_clean (disk_after result)) → IsHonest log }
 {
     let mut log = log;
@@ -81,9 +81,9 @@ fn finish<T: KeepLine, W: Write, D: Disk>(
     output: &mut W,
 ) -> Result<Log<D>, Ended<D>>
     requires { IsBegun batch.old }
-    ensures ok { IfOk result (λ log_new. Ends T.TakeLine.effect T.changes T.keeping T.settled taker.old batch.old log (W.contents output.old) taker.new log_new (W.contents output.new)) }
+    ensures ok { IfOk result (λ log_new. Ends T.TakeLine.effect T.changes T.mark T.keeping T.settled taker.old batch.old log (W.contents output.old) taker.new log_new (W.contents output.new)) }
     ensures crash { IfErr result (λ ended. IsTrue (D.Disk.is_clean (disk_ended ended)) → (c : List ℕ) → D.Disk.may_leave (disk_ended ended) c
-        → LeavesPart T.TakeLine.effect T.changes T.keeping T.settled taker.old batch.old (text_in log) (10 ∷ []) c (W.contents output.old) (W.contents output.new)) }
+        → LeavesPart T.TakeLine.effect T.changes T.mark T.keeping T.settled taker.old batch.old (text_in log) (10 ∷ []) c (W.contents output.old) (W.contents output.new)) }
     ensures clean { IsTrue (D.Disk.is_clean (disk_after result)) → IsHonest log }
 {
     if !batch.has_held() {
@@ -114,10 +114,10 @@ pub fn serve_lines<T: KeepLine, R: Read, W: Write, D: Disk>(
     output: &mut W,
 ) -> Result<Log<D>, Ended<D>>
     ensures done { IfOk result (λ log_new. IfSome (R.remaining input.old) (λ bytes.
-        Done T.TakeLine.effect T.changes T.keeping T.settled line_limit bytes taker.old (text_in log) (W.contents output.old) taker.new log_new (W.contents output.new))) }
+        Done T.TakeLine.effect T.changes T.mark T.keeping T.settled line_limit bytes taker.old (text_in log) (W.contents output.old) taker.new log_new (W.contents output.new))) }
     // Whatever the call answers, a crash leaves what was kept of a first part of the input, and who was answered is there.
     ensures crash { IsTrue (D.Disk.is_clean (disk_after result)) → (c : List ℕ) → D.Disk.may_leave (disk_after result) c
-        → IfSome (R.remaining input.old) (λ bytes. LeavesPart T.TakeLine.effect T.changes T.keeping T.settled taker.old (none_yet line_limit) (text_in log) (bytes ++ 10 ∷ []) c (W.contents output.old) (W.contents output.new)) }
+        → IfSome (R.remaining input.old) (λ bytes. LeavesPart T.TakeLine.effect T.changes T.mark T.keeping T.settled taker.old (none_yet line_limit) (text_in log) (bytes ++ 10 ∷ []) c (W.contents output.old) (W.contents output.new)) }
     ensures clean { IsTrue (D.Disk.is_clean (disk_after result)) → IsHonest log }
 {
     let mut batch = Batch::new(alloc, LIMIT);

@@ -2,7 +2,7 @@ ghost use Rattle.std.specs.Prelude.{◌≡◌, ℕ, List, Bool, IfOk};
 
 use crate::take::TakeLine;
 use snap_path::NoMemory;
-use std::alloc::Global;
+use std::alloc::{AllocError, Global};
 
 /// What takes lines some of which change something that is kept: those are kept first, and then carried out.
 pub trait KeepLine: TakeLine {
@@ -15,6 +15,9 @@ pub trait KeepLine: TakeLine {
 
     // Whether the lines that change something are the same ones for each value that lines lead to from here.
     ghost settled: { Self → Bool };
+
+    // The mark that is kept behind whole lines, without its line feed.
+    ghost mark: { Self → List ℕ → List ℕ };
 
     /// Whether a line, which stands here without its line feed, would change what is kept.
     ///
@@ -31,4 +34,11 @@ pub trait KeepLine: TakeLine {
     /// ahead of them are carried out. Takes no memory.
     fn is_settled(&self) -> bool
         ensures { result ≡ settled self.now };
+
+    /// The mark that is kept behind whole lines which change something, before they are carried out. It changes nothing
+    /// itself, and tells whether they are still the lines that were kept.
+    ///
+    /// `AllocError` where memory for its bytes was refused. The cost grows with the bytes of the lines.
+    fn mark_behind(&self, alloc: Global, lines: &[u8]) -> Result<Vec<u8>, AllocError>
+        ensures { IfOk result (λ line. line.items ≡ mark self.now lines.now) };
 }

@@ -67,7 +67,7 @@ taken w rows ends fields e f low high = rw (e, f) (sym (inside w rows low high))
 pub asks_run : (name : List ℕ) (rows : List Row) → name ≡ codes "run" → IsAskedBy name rows (Some (Run (run_options_of rows)))
 asks_run name rows is = subst (λ (n : List ℕ). IsAskedBy n rows (Some (Run (run_options_of rows)))) (sym is) refl
 
-pub asks_serve : (name : List ℕ) (rows : List Row) (task : Option Task) → name ≡ codes "serve" → IsServer (first_of (codes "log") rows) task → IsAskedBy name rows task
+pub asks_serve : (name : List ℕ) (rows : List Row) (task : Option Task) → name ≡ codes "serve" → IsServer rows task → IsAskedBy name rows task
 asks_serve name rows task is asked = subst (λ (n : List ℕ). IsAskedBy n rows task) (sym is) asked
 
 pub asks_writers : (name : List ℕ) (rows : List Row) (task : Option Task) → name ≡ codes "writers" → ((number : Option ℕ) × IsNumberOf (one_of (codes "workers") rows) number × (task ≡ writers_of number rows)) → IsAskedBy name rows task
@@ -115,7 +115,7 @@ writers_task (Some w) rows = by (nat_le 1 w && nat_le w 16) refl
 
 task_as : (a b c : Bool) (rows : List Row) (task : Option Task) → IsAskedAs a b c rows task → IfSome task IsTask
 task_as true b c rows task h = subst (λ t. IfSome t IsTask) (sym h) tt
-task_as false true c rows (Some (Serve log)) h = tt
+task_as false true c rows (Some (Serve log rebases)) h = tt
 task_as false true c rows (Some (Run options)) h = absurd h
 task_as false true c rows (Some (Writers options)) h = absurd h
 task_as false true c rows None h = absurd h

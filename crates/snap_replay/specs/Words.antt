@@ -38,17 +38,17 @@ abbrev pub writers_of : Option ℕ → List Row → Option Task
 writers_of None rows = None
 writers_of (Some workers) rows = if nat_le 1 workers && nat_le workers 16 then Some (Writers (job_options_of workers rows)) else None
 
--- a server over the log that this text names, or over none
-abbrev pub IsServer : Option Text → Option Task → Type 0
-IsServer log None = ⊥
-IsServer log (Some (Run options)) = ⊥
-IsServer log (Some (Serve name)) = option_map (λ n. n.now) name ≡ log
-IsServer log (Some (Writers options)) = ⊥
+-- a server over the log that `--log` names, or over none; `--rebase` has the log's marks compared anew
+abbrev pub IsServer : List Row → Option Task → Type 0
+IsServer rows None = ⊥
+IsServer rows (Some (Run options)) = ⊥
+IsServer rows (Some (Serve name rebases)) = (option_map (λ n. n.now) name ≡ first_of (codes "log") rows) × (rebases ≡ is_given (codes "rebase") rows)
+IsServer rows (Some (Writers options)) = ⊥
 
 -- by whether the command is `run`, `serve` or `writers`, and what was found of its options: a run, a server, jobs by so many workers, or nothing
 abbrev pub IsAskedAs : Bool → Bool → Bool → List Row → Option Task → Type 0
 IsAskedAs true is_serve is_writers rows task = task ≡ Some (Run (run_options_of rows))
-IsAskedAs false true is_writers rows task = IsServer (first_of (codes "log") rows) task
+IsAskedAs false true is_writers rows task = IsServer rows task
 IsAskedAs false false true rows task = (number : Option ℕ) × IsNumberOf (one_of (codes "workers") rows) number × (task ≡ writers_of number rows)
 IsAskedAs false false false rows task = task ≡ None
 

@@ -5,6 +5,7 @@ ghost use Rattle.snap_replay.specs.Logged.{log_status_of};
 use snap_durable::{Ended, ReplayError, Unserved, serve_log};
 use snap_lines::Stop;
 use snap_log::{Log, OpenError};
+use snap_marks::{Difference, Differs, Sums};
 use sqlite_disk::{Disk, Files};
 use sqlite_std_file::{OpenError as FileError, Wary, open};
 use std::io::BufWriter;
@@ -25,6 +26,8 @@ pub(crate) enum LogStop {
     Refused(OpenError),
     // A sync failed, so that it is unknown whether the log has the lines of the last read.
     Unknown(io::Error),
+    // A mark of the log doesn't agree with its lines or with their answers, or the last line is no mark.
+    Differs(Sums),
 }
 
 impl LogStop {
@@ -38,7 +41,34 @@ impl LogStop {
             LogStop::Busy => 6,
             LogStop::Io(_) | LogStop::Refused(_) => 7,
             LogStop::Unknown(_) => 8,
+            LogStop::Differs(_) => 9,
         }
+    }
+}
+
+// What the marks of a log tell: the first that differs, or that none stands behind its last lines.
+fn write_difference<W: fmt::Write>(f: &mut fmt::Formatter<W>, sums: &Sums) -> fmt::Result {
+    let from = sums.agreed.saturating_add(1);
+    match sums.differs {
+        Some(
+            Difference {
+                line,
+                what: Differs::Lines,
+            },
+        ) => write!(
+            f,
+            "lines {from} to {line} of the log aren't those that were written"
+        ),
+        Some(
+            Difference {
+                line,
+                what: Differs::Answers,
+            },
+        ) => write!(
+            f,
+            "the lines of the log up to the mark before line {line} have other answers now than when they were written"
+        ),
+        None => write!(f, "no mark stands behind the log's lines from {from} on"),
     }
 }
 
@@ -54,6 +84,10 @@ impl fmt::Display for LogStop {
                 f,
                 "a sync of the log failed, start again to know what it has: {error}"
             ),
+            LogStop::Differs(sums) => {
+                write_difference(f, sums)?;
+                f.write_str("; --rebase takes them as they are")
+            }
         }
     }
 }
@@ -70,18 +104,21 @@ fn file_stop(error: io::Error) -> LogStop {
 fn lines_over<D: Disk + Drop, T: Input + Print + AllocGlobal>(
     rt: &T,
     log: Log<D>,
+    rebases: bool,
 ) -> Result<(), LogStop> {
     let alloc = rt.alloc();
     let mut input = rt.reader();
     let Ok(mut output) = BufWriter::new(alloc, io::writer(rt)) else {
         return Err(LogStop::WantOfMemory);
     };
-    match serve_log(alloc, log, &mut input, &mut output) {
+    match serve_log(alloc, log, rebases, &mut input, &mut output) {
         Ok(_) => Ok(()),
         Err(Unserved::Replay(_, error)) => match error {
             ReplayError::Io(error) => Err(file_stop(error)),
             ReplayError::Stopped(stop) => Err(LogStop::Lines(stop)),
         },
+        Err(Unserved::Differs(_, sums)) => Err(LogStop::Differs(sums)),
+        Err(Unserved::NotRebased(_, error)) => Err(file_stop(error)),
         Err(Unserved::Ended(ended)) => match ended {
             Ended::Stopped(_, stop) => Err(LogStop::Lines(stop)),
             Ended::Unknown(_, error) => Err(LogStop::Unknown(error)),
@@ -89,8 +126,8 @@ fn lines_over<D: Disk + Drop, T: Input + Print + AllocGlobal>(
     }
 }
 
-// Serves the lines on standard input over the log in a file.
-pub(crate) fn serve_file(rt: &HostRuntime, path: &str) -> Result<(), LogStop> {
+// Serves the lines on standard input over the log in a file. Where its marks differ, it does so only if it rebases.
+pub(crate) fn serve_file(rt: &HostRuntime, path: &str, rebases: bool) -> Result<(), LogStop> {
     let Files { log: _, db } = match open(rt, path, Wary) {
         Ok(files) => files,
         Err(FileError::Busy) => return Err(LogStop::Busy),
@@ -101,7 +138,7 @@ pub(crate) fn serve_file(rt: &HostRuntime, path: &str) -> Result<(), LogStop> {
         Err(FileError::Io(error)) => return Err(file_stop(error)),
     };
     match Log::open(db) {
-        Ok(log) => lines_over(rt, log),
+        Ok(log) => lines_over(rt, log, rebases),
         Err(failed) => match failed.why {
             OpenError::Io(error) => Err(file_stop(error)),
             why => Err(LogStop::Refused(why)),

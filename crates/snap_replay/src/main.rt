@@ -187,8 +187,9 @@ fn words_of(rt: &HostRuntime) -> Result<Vec<String>, u8> {
 enum Task<'a> {
     // Replay the script on standard input.
     Run { options: RunOptions },
-    // Answer each line on standard input, and keep those that change the store in a file, if one is named.
-    Serve { log: Option<&'a str> },
+    // Answer each line on standard input, and keep those that change the store in a file, if one is named. Where its marks
+    // differ, it is served only if it rebases.
+    Serve { log: Option<&'a str>, rebases: bool },
     // Run the jobs on standard input by 1 to 16 workers.
     Writers { options: JobOptions },
 }
@@ -204,6 +205,9 @@ const STRICT: &str = "strict";
 
 // The option of `serve` that names the file of its log.
 const LOG: &str = "log";
+
+// The option of `serve` by which a log's marks are compared anew.
+const REBASE: &str = "rebase";
 
 // The option of `run` by which it ends at the first refusal.
 const STOP: &str = "stop";
@@ -223,7 +227,8 @@ Out: a line for each, in order, before the next is read: its answer, {"fault":WO
 no command, {"empty":true} where it is empty; with an id {"answer":ANSWER,"id":ID}.
 With --log, {"error":"NotKept","from":"log"} for a line that would change the store and can't be kept.
 Status: 0 at the end of the input, 2 bad words, 3 a read or a write failed, 4 want of memory; with --log also
-6 where another process has the log, 7 where it is none or can't be read, 8 where a sync failed.
+6 where another process has the log, 7 where it is none or can't be read, 8 where a sync failed, 9 where its
+lines aren't those that were written or have other answers now; with --rebase these are taken as they are.
 Example:
   printf '%s\n' '{"do":"open","root":"/r","namespaces":[["a",9,9]]}' '{"do":"report","id":7}' | snap_replay serve"#;
 
@@ -291,12 +296,18 @@ fn serve_command<'a>(alloc: Global) -> Result<Command<'a>, Error> {
             "Keeps each line that changes the store in this file before it is answered, and begins with those there",
         )
         .action(ArgAction::Set);
+    let rebase = Arg::new(alloc, REBASE)
+        .long(REBASE)
+        .help("Takes the log's lines as they are, with the answers that they have now")
+        .action(ArgAction::SetTrue)
+        .requires_arg(LOG)?;
     let serve = Command::new(alloc, "serve")
         .about(
             "Serves a client: reads a command a line, answers every line and goes on after faults",
         )
         .after_help(SERVE_HELP)
-        .arg(log)?;
+        .arg(log)?
+        .arg(rebase)?;
     Ok(serve)
 }
 
@@ -372,6 +383,7 @@ fn chosen<'a>(matches: &'a ArgMatches<'_>) -> Option<Task<'a>>
         }),
         "serve" => Some(Task::Serve {
             log: own.get_str(LOG),
+            rebases: is_given(REBASE, own),
         }),
         "writers" => {
             let options = job_options(own)?;
@@ -391,8 +403,13 @@ fn done<T: Threads + Wait + Sync + Input + Print + Eprint + AllocGlobal>(
 {
     match task {
         Some(Task::Run { options }) => status(rt, replayed(rt, options)),
-        Some(Task::Serve { log: None }) => status(rt, lines_served(rt)),
-        Some(Task::Serve { log: Some(path) }) => log_status(rt, serve_file(files, path)),
+        Some(Task::Serve { log: None, .. }) => status(rt, lines_served(rt)),
+        Some(
+            Task::Serve {
+                log: Some(path),
+                rebases,
+            },
+        ) => log_status(rt, serve_file(files, path, rebases)),
         Some(Task::Writers { options }) => status(rt, jobs_written(rt, options)),
         None => {
             let _ = rt.eprintln("error: no command");

@@ -18,9 +18,9 @@ pub returns-in-serve : goal.returns-in-serve
 returns-in-serve c =
     let name = c.in_ok-name.name.now in
     let rows = rows_of (found_of c.in_ok-name.own.now) in
-    let task = Some (Serve c.get_str.result) in
+    let task = Some (Serve c.get_str.result c.is_given.result) in
     let asked : IsAsked (subcommand_rows_of c.args.matches.now) task = found_is c.args.matches.now name rows task c.in_ok-name.ensures.name c.in_ok-name.ensures.rows
-    (asks_serve name rows task c.in-serve.is (c.get_str.ensures ∙ first_value-rows (found_of c.in_ok-name.own.now) (codes "log"))) in
+    (asks_serve name rows task c.in-serve.is (c.get_str.ensures ∙ first_value-rows (found_of c.in_ok-name.own.now) (codes "log"), c.is_given.ensures)) in
     record { asked = asked; task = asked_task (subcommand_rows_of c.args.matches.now) task asked }
 
 pub returns-in_default : goal.returns-in_default

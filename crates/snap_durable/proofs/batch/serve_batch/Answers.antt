@@ -14,4 +14,4 @@ returns-in-Ok-read_lines-clause-answered g c =
 
 pub returns-in-Err-clause-crash : goal.returns-in-Err-clause-crash
 returns-in-Err-clause-crash g c = λ clean f left.
-    leaves_kept g.T.TakeLine.effect g.T.KeepLine.changes g.T.KeepLine.keeping g.T.KeepLine.settled c.args.taker.now (text_in c.args.log) c.args.whole.now f (g.W.Write.contents c.args.output.now) (c.in-Err.ensures.crash clean f left)
+    leaves_kept g.T.TakeLine.effect g.T.KeepLine.changes g.T.KeepLine.mark g.T.KeepLine.keeping g.T.KeepLine.settled c.args.taker.now (text_in c.args.log) c.args.whole.now f (g.W.Write.contents c.args.output.now) (c.in-Err.ensures.crash clean f left)

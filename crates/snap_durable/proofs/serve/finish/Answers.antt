@@ -8,7 +8,7 @@ returns-then-not-has_held-clause-ok g c = record {
   last = [];
   is = inl refl;
   end = c.args.batch.now;
-  went = went_none g.T.TakeLine.effect g.T.KeepLine.changes g.T.KeepLine.keeping g.T.KeepLine.settled c.args.taker.now c.args.batch.now c.args.batch.now c.args.log (g.W.Write.contents c.args.output.now) [] refl c.requires.none;
+  went = went_none g.T.TakeLine.effect g.T.KeepLine.changes g.T.KeepLine.mark g.T.KeepLine.keeping g.T.KeepLine.settled c.args.taker.now c.args.batch.now c.args.batch.now c.args.log (g.W.Write.contents c.args.output.now) [] refl c.requires.none;
 }
 
 pub returns-clause-ok : goal.returns-clause-ok

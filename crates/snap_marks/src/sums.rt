@@ -1,0 +1,197 @@
+// The sums of a log, as its lines are carried out.
+ghost use Rattle.std.specs.Prelude.{◌≡◌, ◌++◌, IfOk, OnErr, OnOk, bytes_eq};
+ghost use Rattle.snap_marks.specs.Marks.{stem, tail, tail_rebased};
+ghost use Rattle.snap_marks.specs.Sums.{agreed, differing, is_whole, mark_behind, marked, next_read, no_sums, passed, rebased, rebased_mark, summed, what_differs};
+
+use crate::mark::{chained, chained_line, chained_lines, first_part, stem};
+use std::alloc::{AllocError, Global};
+
+/// What isn't as a mark has it.
+#[derive(Clone, Copy, Debug, PartialEq, Eq)]
+pub enum Differs {
+    /// The lines before it.
+    Lines,
+    /// The answers that these had up to the mark before.
+    Answers,
+}
+
+/// The first mark that isn't as the lines before it and their answers want it.
+#[derive(Clone, Copy, Debug, PartialEq, Eq)]
+pub struct Difference {
+    /// Its number among the log's lines, from 1.
+    pub line: u64,
+    /// What differs.
+    pub what: Differs,
+}
+
+/// The sums of a log's lines and of their answers, and what was found by its marks.
+#[derive(Clone, Copy)]
+pub struct Sums {
+    /// The sum of the lines that were added.
+    pub lines: [u8; 32],
+    /// The sum of the answers that these had.
+    pub answers: [u8; 32],
+    /// The sum of answers at the last mark.
+    pub told: [u8; 32],
+    /// How many lines were read.
+    pub read: u64,
+    /// The number of the last line that is a mark which agrees, up to the first that doesn't, or 0.
+    pub agreed: u64,
+    /// The first mark that doesn't agree.
+    pub differs: Option<Difference>,
+    /// Whether the last line was a mark, or there was none.
+    pub ends: bool,
+}
+
+// The number of the line after so many.
+fn next_read(read: u64) -> u64
+    ensures { result ≡ next_read read }
+{
+    read.saturating_add(1)
+}
+
+impl Sums {
+    /// Of no line. Takes no memory.
+    pub fn new() -> Sums
+        ensures { result ≡ no_sums }
+    {
+        Sums {
+            lines: [0; 32],
+            answers: [0; 32],
+            told: [0; 32],
+            read: 0,
+            agreed: 0,
+            differs: None,
+            ends: true,
+        }
+    }
+
+    /// Adds a line, which stands here without its line feed, and its answer. Takes no memory; the cost grows with both.
+    pub fn add(&mut self, line: &[u8], answer: &[u8])
+        ensures { self.new ≡ summed self.old line.now answer.now }
+    {
+        self.lines = chained_line(&self.lines, line);
+        self.answers = chained(&self.answers, answer);
+        self.read = next_read(self.read);
+        self.ends = false;
+    }
+
+    /// Passes over a line that isn't added.
+    pub fn pass(&mut self)
+        ensures { self.new ≡ passed self.old }
+    {
+        self.read = next_read(self.read);
+        self.ends = false;
+    }
+
+    // What isn't as this mark has it.
+    fn what_differs(&self, alloc: Global, mark: &[u8]) -> Result<Differs, AllocError>
+        ensures { IfOk result (λ what. what ≡ what_differs self.now mark.now) }
+    {
+        let first = first_part(alloc, &self.lines)?;
+        if mark.starts_with(first.as_slice()) {
+            Ok(Differs::Answers)
+        } else {
+            Ok(Differs::Lines)
+        }
+    }
+
+    // Whether the line is the mark that stands where lines were added.
+    fn agrees(&self, alloc: Global, mark: &[u8]) -> Result<bool, AllocError>
+        ensures { IfOk result (λ is. is ≡ bytes_eq mark.now (stem self.now.lines self.now.told ++ tail)) }
+    {
+        let mut text = stem(alloc, &self.lines, &self.told)?;
+        text.extend_from_slice(b"\"}")?;
+        Ok(mark == text.as_slice())
+    }
+
+    /// The mark by which those before it are not compared any more.
+    ///
+    /// `AllocError` where memory for its bytes was refused.
+    pub fn rebased(&self, alloc: Global) -> Result<Vec<u8>, AllocError>
+        ensures { IfOk result (λ mark. mark.items ≡ rebased_mark self.now) }
+    {
+        let mut text = stem(alloc, &self.lines, &self.answers)?;
+        text.extend_from_slice(b"\",\"rebased\":true}")?;
+        Ok(text)
+    }
+
+    /// The mark behind further lines, each with its line feed, and before their answers.
+    ///
+    /// `AllocError` where memory for its bytes was refused. The cost grows with the bytes of the lines.
+    pub fn mark_behind(&self, alloc: Global, lines: &[u8]) -> Result<Vec<u8>, AllocError>
+        ensures { IfOk result (λ mark. mark.items ≡ mark_behind self.now lines.now) }
+    {
+        let sum = chained_lines(&self.lines, lines);
+        let mut text = stem(alloc, &sum, &self.answers)?;
+        text.extend_from_slice(b"\"}")?;
+        Ok(text)
+    }
+
+    // The same sums behind this mark, where it agrees.
+    fn agree(&mut self)
+        ensures { self.new ≡ agreed self.old }
+    {
+        self.read = next_read(self.read);
+        self.told = self.answers;
+        self.ends = true;
+        if self.differs.is_none() {
+            self.agreed = self.read;
+        }
+    }
+
+    // And where it begins anew.
+    fn rebase(&mut self)
+        ensures { self.new ≡ rebased self.old }
+    {
+        self.read = next_read(self.read);
+        self.told = self.answers;
+        self.ends = true;
+        self.agreed = self.read;
+        self.differs = None;
+    }
+
+    // And where this differs.
+    fn differ(&mut self, what: Differs)
+        ensures { self.new ≡ differing self.old what }
+    {
+        self.read = next_read(self.read);
+        self.told = self.answers;
+        self.ends = true;
+        if self.differs.is_none() {
+            self.differs = Some(Difference {
+                line: self.read,
+                what,
+            });
+        }
+    }
+
+    /// Compares a mark, which stands here without its line feed, with the sums.
+    ///
+    /// `AllocError` where memory for a mark's bytes was refused; the sums are as they were then.
+    #[tactic(auto, unfolding(crate::specs::Sums::marked))]
+    pub fn compare(&mut self, alloc: Global, mark: &[u8]) -> Result<(), AllocError>
+        ensures marked { OnOk result (self.new ≡ marked self.old mark.now) }
+        ensures refused { OnErr result (self.new ≡ self.old) }
+    {
+        let rebased = self.rebased(alloc)?;
+        if mark == rebased.as_slice() {
+            self.rebase();
+            return Ok(());
+        }
+        if self.agrees(alloc, mark)? {
+            self.agree();
+            return Ok(());
+        }
+        let what = self.what_differs(alloc, mark)?;
+        self.differ(what);
+        Ok(())
+    }
+
+    /// Whether each mark agrees, and the last line is one, if there is any.
+    pub fn is_whole(&self) -> bool
+        ensures { result ≡ is_whole self.now }
+    {
+        self.differs.is_none() && self.ends
+    }
+}
