@@ -20,9 +20,8 @@
 | README.md | | it has at most 12,000 characters |
 | README.md and docs/*.md together | | they have at most 25,000 words |
 
-A word is what stands between spaces and has a letter or a digit, in tables and code too. What a command writes, and what is
-copied from a source, isn't counted: what stands between `<!-- THING: begin -->` and `<!-- THING: end -->`, and blocks of `rust`
-and `antt`.
+A word is what stands between spaces and has a letter or a digit, in tables and code too. What a command writes, or compares
+with the source that it is copied from, stands between `<!-- THING: begin -->` and `<!-- THING: end -->`, and isn't counted.
 
 A name is one word, or several with `::` between them; what else is in code quotes is left alone. Prints each fault
 as `docs: FILE:LINE: WHAT`, and last `docs: N passed, M failed`; status 1 where there is a fault.
@@ -47,7 +46,7 @@ FOLDERS = (".ci", ".github", "benchmarks", "clients", "compare", "crates", "docs
 ANY = re.compile(r"\b(?:NAME|FILE)\b")
 README_CHARACTERS = 12_000
 COUNTED = ("README.md", "docs/*.md")
-MADE = re.compile(r"(?ms)<!-- ([\w ]+): begin -->.*?<!-- \1: end -->|^```(?:rust|antt)$.*?^```$")
+MADE = re.compile(r"(?s)<!-- ([\w ]+): begin -->.*?<!-- \1: end -->")
 MOST_WORDS = 25_000
 TABLE = crates()
 
@@ -320,7 +319,7 @@ def check_commands(checks):
 
 
 def counted_words():
-    """How many words each page has, without what a command writes and what is copied from sources."""
+    """How many words each page has, without what a command writes or compares with a source."""
     pages = (page for pattern in COUNTED for page in found(pattern))
     return {page: sum(bool(re.search(r"\w", it)) for it in MADE.sub("", read(page)).split()) for page in pages}
 
