@@ -18,11 +18,6 @@ HERE = Path(__file__).resolve().parent
 FIGURES = HERE / "figures"
 DOCUMENT = HERE.parent / "docs" / "PERFORMANCE.md"
 
-LOOK_GOALS = {"library": 2, "script": 3}
-EDIT_GOAL = 3
-CYCLE_GOAL, GROWTH_GOAL = 3, 1.5
-CYCLE = "prepare, stat, commit, remove"
-
 
 def rows_of(name):
     path = FIGURES / f"{name}.tsv"
@@ -52,32 +47,16 @@ def ratio(row):
     return row["ours"] / row["plain"]
 
 
-def is_met(value, goal):
-    return "yes" if value <= goal else "no"
-
-
-def goal_of(row):
-    return LOOK_GOALS[row["surface"]] if row["what"].startswith("look") else EDIT_GOAL
-
-
-def goals_table(rows):
+def deep_table(rows):
+    """The figures of the library through the most layers, at the places where scripts were measured too."""
     by_place = {(row["surface"], row["what"], row["layers"], row["entries"]): row for row in rows}
     script = [row for row in rows if row["surface"] == "script"]
     library = [by_place["library", row["what"], row["layers"], row["entries"]] for row in script]
     return table(
-        ("surface", "what", "entries", "ours, µs", "plain, µs", "ratio", "goal", "met"),
+        ("what", "entries", "ours, µs", "plain, µs", "ratio"),
         [
-            (
-                row["surface"],
-                row["what"],
-                f"{row['entries']:,}",
-                shown(row["ours"]),
-                shown(row["plain"]),
-                shown(ratio(row)),
-                goal_of(row),
-                is_met(ratio(row), goal_of(row)),
-            )
-            for row in library + script
+            (row["what"], f"{row['entries']:,}", shown(row["ours"]), shown(row["plain"]), shown(ratio(row)))
+            for row in library
         ],
     )
 
@@ -157,39 +136,10 @@ def store_table(rows):
                 row["what"],
                 f"{row['snapshots']:,}",
                 shown(row["ours"]),
-                shown(row["plain"]),
-                shown(ratio(row)),
                 shown(grows),
             )
         )
-    return table(("what", "snapshots", "ours, µs", "plain, µs", "ratio", "to the first row"), body)
-
-
-def store_goals(rows):
-    cycles = {row["snapshots"]: row for row in rows if row["what"] == CYCLE}
-    many, few = 100000, min(cycles)
-    if many not in cycles:
-        return f"The goals are for {many:,} snapshots, which were not reached."
-    grows = cycles[many]["ours"] / cycles[few]["ours"]
-    beside = ratio(cycles[many])
-    return table(
-        ("a cycle with 100,000 snapshots", "ratio", "goal", "met"),
-        [
-            ("to one with 100", shown(grows), GROWTH_GOAL, is_met(grows, GROWTH_GOAL)),
-            ("to the plain program's", shown(beside), CYCLE_GOAL, is_met(beside, CYCLE_GOAL)),
-        ],
-    )
-
-
-def store_memory(rows):
-    return table(
-        ("what", "ours, bytes", "plain, bytes", "ratio"),
-        [
-            (row["what"], shown(row["ours"]), shown(row["plain"]), shown(ratio(row)))
-            for row in rows
-            if row["unit"] == "bytes"
-        ],
-    )
+    return table(("what", "snapshots", "ours, µs", "to the first row"), body)
 
 
 def store_picture(rows):
@@ -204,14 +154,12 @@ def tables():
     """The tables by name. The pictures are drawn on the way."""
     made = {}
     if layers := rows_of("layers"):
-        made["goals"] = goals_table(layers)
+        made["deep"] = deep_table(layers)
         made["growth"] = growth_table(layers)
         made["others"] = other_table(layers)
         (FIGURES / "layers.svg").write_text(layers_picture(layers), encoding="utf-8")
     if store := rows_of("store"):
-        made["store goals"] = store_goals(store)
         made["store"] = store_table(store)
-        made["store memory"] = store_memory(store)
         (FIGURES / "store.svg").write_text(store_picture(store), encoding="utf-8")
     return made
 

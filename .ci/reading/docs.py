@@ -1,6 +1,7 @@
 """Tests that the documents name only what is there, by their text and that of the sources.
 
   .ci/tree docs
+  .ci/tree docs --words    how many words README.md and each page of docs/ have, and all together
 
 | what | where | what it must meet |
 |---|---|---|
@@ -17,6 +18,10 @@
 | a name in a column on wrong bodies | docs/CLAUSE.md | `wrong-bodies/` has it |
 | a command in SCRIPT.md's table | docs/SCRIPT.md | it is a word that the program knows, and each such word is there |
 | README.md | | it has at most 12,000 characters |
+| README.md and docs/*.md together | | they have at most 25,000 words |
+
+A word is what stands between spaces and has a letter or a digit, in tables and code too. What a command writes, or compares
+with the source that it is copied from, stands between `<!-- THING: begin -->` and `<!-- THING: end -->`, and isn't counted.
 
 A name is one word, or several with `::` between them; what else is in code quotes is left alone. Prints each fault
 as `docs: FILE:LINE: WHAT`, and last `docs: N passed, M failed`; status 1 where there is a fault.
@@ -32,13 +37,17 @@ from reading.sources import files_of, found, is_there, read
 
 PAGES = (
     "README.md", "CONTRIBUTING.md", "CHANGELOG.md", "SECURITY.md", "docs/*.md", "crates/*/README.md",
-    "examples/README.md", "clients/README.md", "clients/go/*/README.md", "benchmarks/README.md", "compare/README*",
+    "examples/README.md", "clients/README.md", "clients/go/*/README.md", "benchmarks/README.md",
+    "compare/README*", "packaging/README.md",
     ".github/*.md", ".github/*/*.md",
 )
 FOLDERS = (".ci", ".github", "benchmarks", "clients", "compare", "crates", "docs", "examples", "packaging", "wrong-bodies")
 # Words of paths that stand for any name.
 ANY = re.compile(r"\b(?:NAME|FILE)\b")
 README_CHARACTERS = 12_000
+COUNTED = ("README.md", "docs/*.md")
+MADE = re.compile(r"(?s)<!-- ([\w ]+): begin -->.*?<!-- \1: end -->")
+MOST_WORDS = 25_000
 TABLE = crates()
 
 NAME = re.compile(r"[A-Za-z_]\w*(?:::[A-Za-z_]\w*)*")
@@ -309,7 +318,17 @@ def check_commands(checks):
         checks.test(page, 1, word in told, f"no table has the command {word}")
 
 
+def counted_words():
+    """How many words each page has, without what a command writes or compares with a source."""
+    pages = (page for pattern in COUNTED for page in found(pattern))
+    return {page: sum(bool(re.search(r"\w", it)) for it in MADE.sub("", read(page)).split()) for page in pages}
+
+
 def main(words):
+    counts = counted_words()
+    if words == ["--words"]:
+        print(*(f"{count:7,} {page}" for page, count in counts.items()), f"{sum(counts.values()):7,} in all", sep="\n")
+        return 0
     if words:
         sys.exit(__doc__)
     checks = Checks()
@@ -332,6 +351,8 @@ def main(words):
     check_wrong_bodies(checks)
     size = len(read("README.md"))
     checks.test("README.md", 1, size <= README_CHARACTERS, f"it has {size:,} characters, above {README_CHARACTERS:,}")
+    total = sum(counts.values())
+    checks.test("docs", 1, total <= MOST_WORDS, f"README.md and docs/ have {total:,} words, above {MOST_WORDS:,}")
     for page, number, fault in sorted(checks.faults):
         print(f"docs: {page}:{number}: {fault}")
     print(f"docs: {checks.passed} passed, {len(checks.faults)} failed")
