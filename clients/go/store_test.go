@@ -691,7 +691,7 @@ func TestEnded(t *testing.T) {
 func TestStopped(t *testing.T) {
 	for _, goesOn := range []bool{true, false} {
 		store := newStore(t, Usage{1, 1})
-		store.patience = 2 * time.Second
+		store.patience = time.Minute
 		syscall.Kill(store.PID(), syscall.SIGSTOP)
 		asked := make(chan error)
 		go func() {

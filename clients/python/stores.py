@@ -23,8 +23,8 @@ def open_store(blocks: int = 100, inodes: int = 100, **given: object) -> Store:
 
 
 def wait_until(is_met: Callable[[], bool]) -> None:
-    """Waits until something is so, at most ten seconds."""
-    end = time.monotonic() + 10
+    """Waits until something is so, at most a minute."""
+    end = time.monotonic() + 60
     while not is_met():
         if time.monotonic() > end:
             raise TimeoutError

@@ -87,7 +87,7 @@ def wait_for_sent(store: Store, count: int) -> None:
 
 def join(threads: List[threading.Thread]) -> None:
     for thread in threads:
-        thread.join(10)
+        thread.join(60)
         if thread.is_alive():
             raise TimeoutError
 
@@ -244,6 +244,9 @@ class Ends(InFolder):
         within: List[object] = []
 
         def interrupt(number: int, frame: types.FrameType | None) -> None:
+            if not store._connection._sent:
+                signal.setitimer(signal.ITIMER_REAL, 0.05)
+                return
             os.kill(store.pid, signal.SIGCONT)
             within.append(store.stat("a", "k").id)
             raise KeyboardInterrupt

@@ -72,7 +72,7 @@ class Comparison:
         return None
 
     def _make(self, command: Command) -> None:
-        if command["do"] in OPERATIONS:
+        if command["do"] in OPERATIONS or command["do"] == "batch":
             self._operate(command)
         elif command["do"] in LOOKUPS:
             self._look(command)
@@ -111,29 +111,62 @@ class Comparison:
             self.program.ask(command)
 
     def _operate(self, command: Command) -> None:
-        """Makes a file operation on both sides. One that is refused for its snapshot or charge is not Linux's."""
+        """Makes a file operation on both sides, or those of a batch. What is refused for its snapshot or charge is not
+        Linux's."""
         ns, key = command["ns"], command["key"]
-        lookups = [lookup | {"ns": ns, "key": key} for lookup in _lookups_around(command)]
+        operations = [each | {"ns": ns, "key": key} for each in command.get("ops", [command])]
+        lookups = [lookup | {"ns": ns, "key": key} for each in operations for lookup in _lookups_around(each)]
         here, *answers = self.program.ask_all([command, *lookups])
         if not self.layers.is_shown(ns, key):
             return
-        if here == FULL:
-            self._judge_full(command)
-        with self.layers.inside(ns, key):
-            if here.get("from", "file") == "file" and here != FULL:
-                self._compare(command, here if "error" in here else GRANTED, operate)
-                if command["do"] == "mkdir" and "error" not in here:
-                    self._take_mode_as_given(command)
-        if command["do"] == "opaque" and "error" not in here:
-            self.layers.make_opaque(ns, key, command["path"])
-            self.counts.declared["marks-of-roots"] += command["path"] == "/"
+        before = self.counts.steps
+        if command["do"] == "batch":
+            self._make_batch(command, operations, here)
+        elif here.get("from", "file") == "file":
+            self._make_operation(command, here if "error" in here else GRANTED)
         with self.layers.inside(ns, key):
             for lookup, answer in zip(lookups, answers):
                 self._compare(lookup, answer, look_up)
-        if here.get("from", "file") == "file":
-            self._count_step(command, here)
-        if self.counts.steps % self.whole_every == 0:
+        if "count" in here:
+            usage = self.layers.usage(ns, key)
+            self._judge(command, {"count": usage}, {"count": here["count"]}, usage == here["count"])
+        if self.counts.steps % self.whole_every < max(self.counts.steps - before, 1):
             self._look_at_all(ns, key)
+
+    def _make_batch(self, command: Command, operations: Sequence[Command], here: Answer) -> None:
+        """Makes those operations of a batch that the program has done, and the one that it refuses for its files."""
+        if "done" not in here:
+            return
+        done = here["op"] - 1 if "op" in here else len(operations)
+        self._judge(command, {"done": done}, {"done": here["done"]}, done == here["done"])
+        made = [GRANTED] * done
+        if here.get("from") == "file":
+            made.append(refusal(here["error"]))
+        for number, (operation, answer) in enumerate(zip(operations, made), 1):
+            try:
+                self._make_operation(operation, answer)
+            except Difference as found:
+                raise Difference(command, {"op": number} | found.linux, {"op": number} | found.here) from None
+
+    def _make_operation(self, operation: Command, here: Answer) -> None:
+        """Makes an operation that the program has granted, or refused for its files."""
+        ns, key = operation["ns"], operation["key"]
+        is_granted = "error" not in here
+        if here == FULL:
+            self._judge_full(operation)
+        else:
+            with self.layers.inside(ns, key):
+                self._compare(operation, here, operate)
+                if operation["do"] == "mkdir" and is_granted:
+                    self._take_mode_as_given(operation)
+        if operation["do"] == "opaque" and is_granted:
+            self.layers.make_opaque(ns, key, operation["path"])
+            self.counts.declared["marks-of-roots"] += operation["path"] == "/"
+        self.counts.steps += 1
+        if is_granted:
+            self.counts.granted += 1
+        else:
+            self.counts.refused[here["error"]] += 1
 
     def _judge_full(self, command: Command) -> None:
         """A layer is full where the directories that it lacks, what is made and a whiteout could pass its limit. Linux
@@ -142,15 +175,6 @@ class Comparison:
         _, inodes = self.layers.usage(command["ns"], command["key"])
         self._judge(command, NOT_ASKED, FULL, inodes + most > self.layer_inodes)
         self.counts.declared["inodes-above-65536"] += 1
-
-    def _count_step(self, command: Command, here: Answer) -> None:
-        self.counts.steps += 1
-        if "error" in here:
-            self.counts.refused[here["error"]] += 1
-            return
-        self.counts.granted += 1
-        usage = self.layers.usage(command["ns"], command["key"])
-        self._judge(command, {"count": usage}, {"count": here["count"]}, usage == here["count"])
 
     def _take_mode_as_given(self, command: Command) -> None:
         """mkdir(2) keeps some bits of the mode alone. Where that is what happened, the rest is set too."""

@@ -1,6 +1,7 @@
 package containerd
 
 import (
+	"bufio"
 	"context"
 	"fmt"
 	"math/rand"
@@ -16,15 +17,33 @@ import (
 	"github.com/containerd/containerd/snapshots"
 )
 
+// By this variable a process of the tests is the relay of a slow program.
+const relays = "PIBROULEZ_RELAYS"
+
 // A program that hands each line on after some milliseconds.
 func slowProgram(t *testing.T) string {
 	t.Helper()
 	named, err := filepath.Abs(program())
 	granted(t, err)
 	path := filepath.Join(t.TempDir(), "slow")
-	script := fmt.Sprintf("#!/bin/sh\nwhile IFS= read -r line; do sleep 0.005; printf '%%s\\n' \"$line\"; done | %s \"$@\"\n", named)
+	script := fmt.Sprintf("#!/bin/sh\n%s=1 '%s' | '%s' \"$@\"\n", relays, os.Args[0], named)
 	granted(t, os.WriteFile(path, []byte(script), 0o700))
 	return path
+}
+
+// Hands each line of its input on after some milliseconds, in a process of its own.
+func relay() {
+	input := bufio.NewReader(os.Stdin)
+	for {
+		line, err := input.ReadBytes('\n')
+		if err != nil {
+			os.Exit(0)
+		}
+		time.Sleep(5 * time.Millisecond)
+		if _, err := os.Stdout.Write(line); err != nil {
+			os.Exit(0)
+		}
+	}
 }
 
 // Of calls whose contexts end at random moments each is made, with all that belongs to it, or not at all, and its error

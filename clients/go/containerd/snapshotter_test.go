@@ -29,6 +29,9 @@ var ctx = context.Background()
 const allButOne = "./^[^1]"
 
 func TestMain(m *testing.M) {
+	if os.Getenv(relays) != "" {
+		relay()
+	}
 	if root := os.Getenv(killedRoot); root != "" {
 		callUntilKilled(root)
 	}
