@@ -343,6 +343,9 @@ func (s *snapshot) put(keys keys, key string, value []byte) error {
 		if err := json.Unmarshal(value, &s.generation); err != nil {
 			return &BadRecord{key, err}
 		}
+		if s.generation.Format != format {
+			return &BadRecord{key, ErrOtherFormat}
+		}
 		return nil
 	}
 	if len(parts) == 0 {
