@@ -7,6 +7,7 @@ import (
 	"math/rand"
 	"os"
 	"sort"
+	"strconv"
 	"strings"
 	"sync"
 	"testing"
@@ -210,42 +211,92 @@ func BenchmarkFiguresOfRecall(t *testing.B) {
 	fmt.Printf("figure: 10 nodes with recall: %d of %d charged, %d refusals while as much was free\n", charged, limit, refusals)
 }
 
-// Grants of nodes that all take from one tenant, each exactly, for so long.
+// Grants of nodes that all take from one tenant, each exactly, for so long: one node alone, and 16 at pools in so many
+// shards, and at one that they divide themselves.
 func BenchmarkFiguresOfAHotTenant(t *testing.B) {
-	const count, how = 16, 10 * time.Second
-	for _, shards := range []int{1, 4, 16} {
+	for _, it := range []struct {
+		nodes, shards int
+		isUndivided   bool
+	}{{1, 1, true}, {16, 1, true}, {16, 4, true}, {16, 16, true}, {16, 1, false}} {
 		w := newWorld(t)
 		w.limit("a", 1<<30, 1<<30)
-		must(0, w.operator.SetShards(ctx, "a", shards))(t)
-		nodes := w.memoryNodes(t, count, func(c *Config) { c.Batch, c.Patience = usage(0, 1<<20), time.Minute })
-		var group sync.WaitGroup
-		begin := time.Now()
-		for i := range nodes {
-			n := &nodes[i]
-			group.Add(1)
-			go func() {
-				defer group.Done()
-				for time.Since(begin) < how {
-					if err := n.take(usage(1, 0)); err != nil {
-						t.Error(err)
-						return
-					}
-				}
-			}()
+		must(0, w.operator.SetShards(ctx, "a", it.shards))(t)
+		nodes := w.memoryNodes(t, it.nodes, func(c *Config) {
+			c.Batch, c.Patience, c.isUndivided = usage(0, 1<<20), time.Minute, it.isUndivided
+		})
+		how := fmt.Sprintf("in %d shards", it.shards)
+		if !it.isUndivided {
+			how = "in shards as they divide it"
 		}
-		group.Wait()
-		took := time.Since(begin)
-		var raises, lost uint64
+		fmt.Printf("figure: %d nodes at one tenant %s: %s\n", it.nodes, how, w.hot(t, nodes, 10*time.Second))
+		if shards := must(w.operator.Quota(ctx, "a"))(t).Shards; it.isUndivided && shards != it.shards || shards > it.nodes {
+			t.Errorf("%+v: %d shards", it, shards)
+		}
 		for _, n := range nodes {
-			metrics := must(n.Metrics(ctx))(t)
-			raises, lost = raises+metrics.Raises, lost+metrics.LostCompares
-		}
-		fmt.Printf("figure: 16 nodes at one tenant in %d shards: %.0f grants a second, %.2f lost compares each\n",
-			shards, float64(raises)/took.Seconds(), float64(lost)/float64(raises))
-		if faults := must(w.operator.Check(ctx))(t).Faults; len(faults) > 0 {
-			t.Error(faults)
+			n.Close()
 		}
 	}
+}
+
+// Grants of all for so long. What doesn't depend on other work on the machine: the transactions that each grant took, of
+// which each is a round trip, and the processors' time.
+func (w *world) hot(t testing.TB, nodes []memoryNode, how time.Duration) string {
+	t.Helper()
+	var group sync.WaitGroup
+	before, cpu, cpuOfEtcd, begin := w.sum(t, nodes), processorTime("self"), w.etcd.processorTime(), time.Now()
+	for i := range nodes {
+		n := &nodes[i]
+		group.Add(1)
+		go func() {
+			defer group.Done()
+			for time.Since(begin) < how {
+				if err := n.take(usage(1, 0)); err != nil {
+					t.Error(err)
+					return
+				}
+			}
+		}()
+	}
+	group.Wait()
+	took, after := time.Since(begin), w.sum(t, nodes)
+	cpu, cpuOfEtcd = processorTime("self")-cpu, w.etcd.processorTime()-cpuOfEtcd
+	grants, lost, reads := after.Raises-before.Raises, after.LostCompares-before.LostCompares, after.Reads-before.Reads
+	each := func(count float64) float64 { return count / float64(grants) }
+	if faults := must(w.operator.Check(ctx))(t).Faults; len(faults) > 0 {
+		t.Error(faults)
+	}
+	return fmt.Sprintf("%.0f grants a second; each %.2f transactions, %.2f of them lost compares and %.2f reads, and %.2f ms of agents and %.2f ms of etcd",
+		float64(grants)/took.Seconds(), each(float64(grants+lost+reads)), each(float64(lost)), each(float64(reads)),
+		each(cpu.Seconds()*1000), each(cpuOfEtcd.Seconds()*1000))
+}
+
+// The counters of all.
+func (w *world) sum(t testing.TB, nodes []memoryNode) (all Metrics) {
+	t.Helper()
+	for _, n := range nodes {
+		it := must(n.Metrics(ctx))(t)
+		all.Raises, all.LostCompares, all.Reads = all.Raises+it.Raises, all.LostCompares+it.LostCompares, all.Reads+it.Reads
+	}
+	return all
+}
+
+// The processors' time of a process, by proc(5): in hundredths of a second.
+func processorTime(process string) time.Duration {
+	text, _ := os.ReadFile("/proc/" + process + "/stat")
+	words := strings.Fields(string(text[strings.LastIndexByte(string(text), ')')+1:]))
+	if len(words) < 13 {
+		return 0
+	}
+	user, _ := strconv.ParseInt(words[11], 10, 64)
+	system, _ := strconv.ParseInt(words[12], 10, 64)
+	return time.Duration(user+system) * (time.Second / 100)
+}
+
+func (e *etcd) processorTime() (all time.Duration) {
+	for _, it := range e.members {
+		all += processorTime(strconv.Itoa(it.process.Process.Pid))
+	}
+	return all
 }
 
 // 1,000 nodes with 30 of 1,000 tenants each: what etcd keeps of them, and 500 grants a second.

@@ -205,7 +205,7 @@ func (t *transactions) limit(ctx context.Context, tenant string, change func(*te
 		if err := change(&next); err != nil {
 			return err
 		}
-		ifs, thens := t.divide(tenant, &k, next)
+		ifs, thens := t.divided(tenant, &k, next)
 		w, err := t.commit(ctx, of, append(ifs, isOf(key, revision), of.isCurrent(t.keys)), thens, []clientv3.Op{clientv3.OpGet(t.keys.generation())})
 		if err != nil || w.Succeeded {
 			return restored(err)
@@ -216,8 +216,28 @@ func (t *transactions) limit(ctx context.Context, tenant string, change func(*te
 	}
 }
 
+// divide keeps what is free of a tenant in so many shards, for a store that has joined. It is a transaction of a limit, with
+// the one that there is. Where it is errLost nothing was written.
+func (t *transactions) divide(ctx context.Context, of *generation, store, tenant string, k *known, shards int) error {
+	next, joined := k.tenant, t.keys.joined(store)
+	next.Shards = shards
+	ifs, thens := t.divided(tenant, k, next)
+	ifs = append(ifs, isOf(t.keys.tenant(tenant), k.tenantRev), of.isCurrent(t.keys), isThere(joined))
+	k.isFresh = false
+	r, err := t.commit(ctx, of, ifs, thens, []clientv3.Op{clientv3.OpGet(joined, clientv3.WithCountOnly()), clientv3.OpGet(t.keys.generation())})
+	switch {
+	case err != nil || r.Succeeded:
+		return err
+	case answer(r, 0).Count == 0:
+		return errNotJoined
+	case !of.isIn(answer(r, 1)):
+		return errGeneration
+	}
+	return errLost
+}
+
 // What writes a tenant's record and each of its shards, as the next record has them.
-func (t *transactions) divide(tenant string, k *known, next tenantRecord) (ifs []clientv3.Cmp, thens []clientv3.Op) {
+func (t *transactions) divided(tenant string, k *known, next tenantRecord) (ifs []clientv3.Cmp, thens []clientv3.Op) {
 	record, parts := dividedOf(next.Limit, k.granted(), next.Shards)
 	thens = []clientv3.Op{put(t.keys.tenant(tenant), record)}
 	for i := 0; i < len(k.shards) || i < len(parts); i++ {
