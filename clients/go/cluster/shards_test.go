@@ -2,7 +2,9 @@ package cluster
 
 import (
 	"context"
+	"errors"
 	"fmt"
+	"sync"
 	"sync/atomic"
 	"testing"
 
@@ -194,4 +196,41 @@ func TestHear(t *testing.T) {
 			t.Errorf("%s: %d, %v, %v free", name, latest, isAll, k.free())
 		}
 	}
+}
+
+// A limit is set and a pool divided while stores take from all of its shards all the time.
+func TestALimitOfAHotTenant(t *testing.T) {
+	t.Parallel()
+	w := newWorld(t)
+	w.limit("a", 1<<30, 1<<30)
+	const count = 8
+	must(0, w.operator.SetShards(ctx, "a", count))(t)
+	nodes := w.memoryNodes(t, count, func(c *Config) { c.Batch, c.Patience = usage(0, 1<<10), patience })
+	hot, cool := context.WithCancel(ctx)
+	var group sync.WaitGroup
+	defer group.Wait()
+	defer cool()
+	for i := range nodes {
+		n := &nodes[i]
+		group.Add(1)
+		go func() {
+			defer group.Done()
+			for hot.Err() == nil {
+				if err := n.take(usage(1, 0)); err != nil && !errors.Is(err, EtcdAway) {
+					t.Error(err)
+					return
+				}
+			}
+		}()
+	}
+	bounded, cancel := context.WithTimeout(ctx, patience)
+	defer cancel()
+	for i := uint64(1); i <= 5; i++ {
+		must(w.operator.SetLimit(bounded, "a", usage(1<<30+i, 1<<30)))(t)
+		must(0, w.operator.SetShards(bounded, "a", count))(t)
+	}
+	cool()
+	group.Wait()
+	equal(t, len(must(w.operator.Check(ctx))(t).Faults), 0)
+	w.checkHistory(w.history())
 }
