@@ -169,10 +169,12 @@ func TestTakenOver(t *testing.T) {
 	isError(t, one.take("a", "o", usage(1, 1)), pibroulez.ErrOverLimit)
 	equal(t, len(must(w.operator.Check(ctx))(t).Faults), 0)
 
-	// A tenant's record that an operator of the first format has made is nobody's.
-	w.put(keys.tenant("b"), text(firstTenant{usage(100, 100), Usage{}}))
+	// A tenant's record that an operator of an earlier format has made is nobody's.
 	two := w.node("two", nil, "b")
-	isError(t, two.take("b", "k", usage(1, 1)), ErrOtherFormat)
-	_, err = w.operator.SetLimit(ctx, "b", usage(1, 1))
-	isError(t, err, ErrOtherFormat)
+	for _, record := range []string{text(firstTenant{usage(100, 100), Usage{}}), `{"l":[100,100],"d":[0,0],"k":1}`} {
+		w.put(keys.tenant("b"), record)
+		isError(t, two.take("b", "k", usage(1, 1)), ErrOtherFormat)
+		_, err = w.operator.SetLimit(ctx, "b", usage(1, 1))
+		isError(t, err, ErrOtherFormat)
+	}
 }
