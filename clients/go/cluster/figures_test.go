@@ -10,6 +10,7 @@ import (
 	"strconv"
 	"strings"
 	"sync"
+	"sync/atomic"
 	"testing"
 	"time"
 
@@ -338,7 +339,79 @@ func BenchmarkFiguresOfManyNodes(t *testing.B) {
 	status := must(w.client.Status(ctx, w.etcd.members[0].client))(t)
 	fmt.Printf("figure: %d nodes with %d of %d tenants: %d keys, %.1f MB, a database of %.0f MB, members of %s\n",
 		nodes, each, tenants, len(keys.Kvs), float64(bytes)/1e6, float64(status.DbSize)/1e6, w.etcd.memory())
-	w.checkPace(t, asked, seconds, workers, func(i int) error { return grant(i%nodes, i/nodes%each, uint64(2+i)) })
+	write := func(i int) error { return grant(i%nodes, i/nodes%each, uint64(2+i)) }
+	w.checkPace(t, asked, seconds, workers, write)
+	var names [][]string
+	for i := 0; i < nodes; i++ {
+		names = append(names, nil)
+		for j := 0; j < each; j++ {
+			names[i] = append(names[i], tenant(i, j))
+		}
+	}
+	end := w.beside(t, names, identity)
+	w.checkPace(t, asked, seconds, workers, func(i int) error { return write(i + asked*seconds) })
+	end()
+}
+
+// What the agents of so many nodes with these tenants do beside their grants: each watches the shards of a tenant, and tells
+// every 5 seconds what its store is charged. Ends it, and prints what it was. An agent has two more watches of a tenant,
+// which grants tell nothing.
+func (w *world) beside(t testing.TB, names [][]string, identity func(int) string) (end func()) {
+	t.Helper()
+	const clients, report, workers = 16, 5 * time.Second, 64
+	bounded, cancel := context.WithCancel(clientv3.WithRequireLeader(ctx))
+	var all []*clientv3.Client
+	for i := 0; i < clients; i++ {
+		client := must(w.etcd.dial())(t)
+		t.Cleanup(func() { client.Close() })
+		all = append(all, client)
+	}
+	var events, watches, reports atomic.Int64
+	keys := w.operator.keys
+	parallel(t, len(names), workers, func(i int) error {
+		for _, tenant := range names[i] {
+			it := all[i%clients].Watch(bounded, keys.shards(tenant), clientv3.WithPrefix())
+			watches.Add(1)
+			go func() {
+				for told := range it {
+					events.Add(int64(len(told.Events)))
+				}
+			}()
+		}
+		return nil
+	})
+	memory, begin := w.etcd.memory(), time.Now()
+	var group sync.WaitGroup
+	for i := 0; i < workers; i++ {
+		i := i
+		group.Add(1)
+		go func() {
+			defer group.Done()
+			for at := i; bounded.Err() == nil; at += workers {
+				node := at % len(names)
+				due := begin.Add(time.Duration(at) * report / time.Duration(len(names)))
+				select {
+				case <-time.After(time.Until(due)):
+				case <-bounded.Done():
+					return
+				}
+				record := presence{fmt.Sprint("node-", node), time.Now().UnixMilli(), map[string]use{}}
+				for _, it := range names[node] {
+					record.Use[it] = use{usage(uint64(at), 1), usage(uint64(at), 1)}
+				}
+				if _, err := w.client.Put(bounded, keys.present(identity(node)), text(record)); err == nil {
+					reports.Add(1)
+				}
+			}
+		}()
+	}
+	return func() {
+		cancel()
+		group.Wait()
+		took := time.Since(begin).Seconds()
+		fmt.Printf("figure: beside them %d watches with %.0f events a second, and %.0f reports a second; members of %s\n",
+			watches.Load(), float64(events.Load())/took, float64(reports.Load())/took, memory)
+	}
 }
 
 // So many grants a second are asked for. How many there are, and what the median takes, from when it was to begin.

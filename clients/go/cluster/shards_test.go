@@ -130,7 +130,7 @@ func TestAHinderedStoreDivides(t *testing.T) {
 	t.Parallel()
 	w := newWorld(t)
 	w.limit("a", 1000, 1000)
-	exact := func(c *Config) { c.Batch = usage(0, 1) }
+	exact := func(c *Config) { c.Batch, c.Timeout = usage(0, 1), patience }
 	two := w.node("two", exact).settle()
 	var hindered atomic.Int64
 	client := w.tapped(func(writes map[string]string, _ func() error) bool {
