@@ -312,16 +312,23 @@ func BenchmarkFiguresOfManyNodes(t *testing.B) {
 	of := must(all.current(ctx, 0))(t)
 	identity := func(i int) string { return fmt.Sprintf("%032x", i) }
 	tenant := func(node, i int) string { return fmt.Sprint("tenant-", (node*7+i*31)%tenants) }
+	// What each node knows of each tenant, and what its watch has told.
+	knows, tolds := make([]known, nodes*each), make([]tenantOfNode, nodes*each)
+	isWatched, lost := false, atomic.Int64{}
 	grant := func(node, i int, blocks uint64) error {
+		k, its := &knows[node*each+i], &tolds[node*each+i]
 		for {
-			var k known
-			err := all.read(ctx, of, identity(node), tenant(node, i), &k)
+			err := error(nil)
+			if !isWatched || !k.isFresh || !its.hear(k, of) {
+				err = all.read(ctx, of, identity(node), tenant(node, i), k)
+			}
 			if err == nil {
-				err = all.grant(ctx, of, identity(node), tenant(node, i), 0, &k, grantRecord{usage(blocks, blocks), "0123456789abcdef", blocks, of.Number})
+				err = all.grant(ctx, of, identity(node), tenant(node, i), 0, k, grantRecord{usage(blocks, blocks), "0123456789abcdef", blocks, of.Number})
 			}
 			if err != errLost {
 				return err
 			}
+			lost.Add(1)
 		}
 	}
 	parallel(t, nodes, workers, func(i int) error {
@@ -348,15 +355,39 @@ func BenchmarkFiguresOfManyNodes(t *testing.B) {
 			names[i] = append(names[i], tenant(i, j))
 		}
 	}
-	end := w.beside(t, names, identity)
+	isWatched = true
+	end := w.beside(t, names, identity, func(node, i int, it *clientv3.Event) { tolds[node*each+i].tell(of, it) })
+	lost.Store(0)
 	w.checkPace(t, asked, seconds, workers, func(i int) error { return write(i + asked*seconds) })
+	fmt.Printf("figure: of these %.2f lost compares a grant\n", float64(lost.Load())/(asked*seconds))
 	end()
+}
+
+// What a watch has told of a tenant in one shard.
+type tenantOfNode struct {
+	mutex sync.Mutex
+	told  told
+}
+
+func (n *tenantOfNode) tell(of *generation, it *clientv3.Event) {
+	var record shardRecord
+	revision, err := takeOne(it.Kv, &record)
+	n.mutex.Lock()
+	defer n.mutex.Unlock()
+	n.told = told{of.generationRecord, map[int]toldShard{0: {knownShard{record.Free, revision}, err != nil}}}
+}
+
+func (n *tenantOfNode) hear(k *known, of *generation) bool {
+	n.mutex.Lock()
+	defer n.mutex.Unlock()
+	_, isAll := k.hear(&n.told, of)
+	return isAll
 }
 
 // What the agents of so many nodes with these tenants do beside their grants: each watches the shards of a tenant, and tells
 // every 5 seconds what its store is charged. Ends it, and prints what it was. An agent has two more watches of a tenant,
 // which grants tell nothing.
-func (w *world) beside(t testing.TB, names [][]string, identity func(int) string) (end func()) {
+func (w *world) beside(t testing.TB, names [][]string, identity func(int) string, tell func(node, i int, it *clientv3.Event)) (end func()) {
 	t.Helper()
 	const clients, report, workers = 16, 5 * time.Second, 64
 	bounded, cancel := context.WithCancel(clientv3.WithRequireLeader(ctx))
@@ -369,12 +400,15 @@ func (w *world) beside(t testing.TB, names [][]string, identity func(int) string
 	var events, watches, reports atomic.Int64
 	keys := w.operator.keys
 	parallel(t, len(names), workers, func(i int) error {
-		for _, tenant := range names[i] {
-			it := all[i%clients].Watch(bounded, keys.shards(tenant), clientv3.WithPrefix())
+		for j, tenant := range names[i] {
+			j, it := j, all[i%clients].Watch(bounded, keys.shards(tenant), clientv3.WithPrefix())
 			watches.Add(1)
 			go func() {
 				for told := range it {
 					events.Add(int64(len(told.Events)))
+					for _, event := range told.Events {
+						tell(i, j, event)
+					}
 				}
 			}()
 		}

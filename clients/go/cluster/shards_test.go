@@ -159,6 +159,12 @@ func TestAHinderedStoreDivides(t *testing.T) {
 		tenant.leave()
 		equal(t, must(one.Metrics(ctx))(t).Divisions, uint64(1))
 	}
+	// Nothing is divided by what has changed meanwhile.
+	must(0, tenant.take(ctx))(t)
+	must(one.know(ctx, tenant, Usage{}))(t)
+	must(0, two.take("a", "last", usage(1, 1)))(t)
+	isError(t, one.transactions.divide(ctx, one.generation.Load(), one.store, "a", &tenant.known, 2), errLost)
+	tenant.leave()
 	w.check()
 }
 

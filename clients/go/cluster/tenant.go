@@ -502,6 +502,9 @@ func (a *Agent) settledOne(t *tenant) {
 	}
 }
 
+// How long is waited after a lost compare, at the most, also where etcd is slow.
+const mostBackOff = 400 * time.Millisecond
+
 // Waits a moment where compares were lost, and the longer the more: at random within as many transactions as there may be
 // stores that want the same shard. What the watch tells meanwhile is known then.
 func (a *Agent) backOff(t *tenant, losses int) {
@@ -510,8 +513,8 @@ func (a *Agent) backOff(t *tenant, losses int) {
 	}
 	others := least(1<<least(losses, 6), int(a.stores.Load()))
 	window := t.trip * time.Duration(others)
-	if most := (a.config.Patience + a.config.Timeout) / 8; window > most {
-		window = most
+	if window > mostBackOff {
+		window = mostBackOff
 	}
 	a.sleep(time.Duration(rand.Int63n(int64(window) + 1)))
 }
