@@ -159,9 +159,17 @@ func TestRuleNoRaiseWithoutAWrite(t *testing.T) {
 // The revision of the first shard as the node knows it, and that its watch hasn't told anything.
 func (n *node) knownShard(tenant string) int64 { return n.tenants[tenant].known.shards[0].revision }
 
+// And as its watch has told it.
+func (n *node) seenShard(tenant string) int64 {
+	t := n.tenants[tenant]
+	t.mutex.Lock()
+	defer t.mutex.Unlock()
+	return t.told.shards[0].revision
+}
+
 func (n *node) seenNothing(tenant string) {
-	n.tenants[tenant].seen.Store(0)
-	n.tenants[tenant].seenShards[0].Store(0)
+	t := n.tenants[tenant]
+	t.seeNothing(t.told.of)
 }
 
 // Gives back what isn't charged.
@@ -273,9 +281,9 @@ func TestRuleOnlyTheMarkSaysForgotten(t *testing.T) {
 	equal(t, one.Status().State, Serving)
 }
 
-// An agent whose watch knows of a change reads before it writes, and so loses no compare. One whose watch doesn't loses
-// one, and knows then.
-func TestRuleAKnownChangeIsReadFirst(t *testing.T) {
+// An agent whose watch has told of a change takes that before it writes, and so loses no compare; where it was the
+// tenant's record it reads. One whose watch hasn't loses one compare, and knows then.
+func TestRuleAKnownChangeIsTakenFirst(t *testing.T) {
 	w := newWorld(t)
 	w.limit("a", 100, 100)
 	small := func(c *Config) { c.Batch = usage(1, 1) }
@@ -284,21 +292,28 @@ func TestRuleAKnownChangeIsReadFirst(t *testing.T) {
 	for i := 0; i < 5; i++ {
 		must(0, two.take("a", fmt.Sprint(i), usage(5, 5)))(t)
 		changed := two.knownShard("a")
-		until(t, "the change at the watch", func() bool { return one.tenants["a"].seenShards[0].Load() >= changed })
+		until(t, "the change at the watch", func() bool { return one.seenShard("a") >= changed })
 		before := must(one.Metrics(ctx))(t)
 		must(0, one.take("a", fmt.Sprint(i), usage(5, 5)))(t)
 		after := must(one.Metrics(ctx))(t)
 		equal(t, after.LostCompares, before.LostCompares)
-		equal(t, after.Reads, before.Reads+1)
+		equal(t, after.Reads, before.Reads)
 		until(t, "the change at the other watch", func() bool {
-			return two.tenants["a"].seenShards[0].Load() >= one.knownShard("a")
+			return two.seenShard("a") >= one.knownShard("a")
 		})
 	}
+	known := one.tenants["a"].known.tenantRev
+	w.limit("a", 200, 200)
+	until(t, "the limit at the watch", func() bool { return one.tenants["a"].seen.Load() > known })
+	before := must(one.Metrics(ctx))(t)
+	must(0, one.take("a", "after", usage(5, 5)))(t)
+	equal(t, must(one.Metrics(ctx))(t).LostCompares, before.LostCompares)
+	equal(t, must(one.Metrics(ctx))(t).Reads, before.Reads+1)
 	// As if the watch hadn't told.
 	must(0, two.take("a", "last", usage(5, 5)))(t)
-	until(t, "the change at the watch", func() bool { return one.tenants["a"].seenShards[0].Load() >= two.knownShard("a") })
+	until(t, "the change at the watch", func() bool { return one.seenShard("a") >= two.knownShard("a") })
 	one.seenNothing("a")
-	before := must(one.Metrics(ctx))(t)
+	before = must(one.Metrics(ctx))(t)
 	must(0, one.take("a", "last", usage(5, 5)))(t)
 	equal(t, must(one.Metrics(ctx))(t).LostCompares, before.LostCompares+1)
 	w.check()
@@ -332,7 +347,7 @@ func TestRuleALateWatchRefusesNothing(t *testing.T) {
 	must(0, one.take("a", "k", usage(50, 10)))(t)
 	known := one.knownShard("a")
 	w.limit("a", 200, 200)
-	until(t, "the change at the watch", func() bool { return one.tenants["a"].seenShards[0].Load() > known })
+	until(t, "the change at the watch", func() bool { return one.seenShard("a") > known })
 	// As if the watch hadn't told.
 	one.seenNothing("a")
 	before := must(one.Metrics(ctx))(t)

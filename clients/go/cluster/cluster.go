@@ -87,11 +87,13 @@ type Config struct {
 	// Report is how often the agent tells etcd what its store is charged, where that has changed: 5 seconds.
 	Report time.Duration
 
-	// For tests: what is told of each step, how often a tenant is looked at that nobody has called for, and the wrong
-	// variant that raises a store's own limit without a write where the grant is seen to be enough.
+	// For tests: what is told of each step, how often a tenant is looked at that nobody has called for, the wrong variant
+	// that raises a store's own limit without a write where the grant is seen to be enough, and whether a pool is divided by
+	// an operator alone.
 	note        func(event)
 	tick        time.Duration
 	isUnwritten bool
+	isUndivided bool
 }
 
 func (c *Config) complete() error {
@@ -152,6 +154,8 @@ type Agent struct {
 	end   *StateError
 
 	isRestored, isDrained atomic.Bool
+	// The record of another format that has kept the store from joining, or nil.
+	other atomic.Pointer[BadRecord]
 	// The generation in which the store has joined, or noGeneration, and the number of the last one that was seen.
 	generation atomic.Pointer[generation]
 	seen       atomic.Uint64

@@ -7,8 +7,10 @@ import (
 	"math/rand"
 	"os"
 	"sort"
+	"strconv"
 	"strings"
 	"sync"
+	"sync/atomic"
 	"testing"
 	"time"
 
@@ -210,42 +212,92 @@ func BenchmarkFiguresOfRecall(t *testing.B) {
 	fmt.Printf("figure: 10 nodes with recall: %d of %d charged, %d refusals while as much was free\n", charged, limit, refusals)
 }
 
-// Grants of nodes that all take from one tenant, each exactly, for so long.
+// Grants of nodes that all take from one tenant, each exactly, for so long: one node alone, and 16 at pools in so many
+// shards, and at one that they divide themselves.
 func BenchmarkFiguresOfAHotTenant(t *testing.B) {
-	const count, how = 16, 10 * time.Second
-	for _, shards := range []int{1, 4, 16} {
+	for _, it := range []struct {
+		nodes, shards int
+		isUndivided   bool
+	}{{1, 1, true}, {16, 1, true}, {16, 4, true}, {16, 16, true}, {16, 1, false}} {
 		w := newWorld(t)
 		w.limit("a", 1<<30, 1<<30)
-		must(0, w.operator.SetShards(ctx, "a", shards))(t)
-		nodes := w.memoryNodes(t, count, func(c *Config) { c.Batch, c.Patience = usage(0, 1<<20), time.Minute })
-		var group sync.WaitGroup
-		begin := time.Now()
-		for i := range nodes {
-			n := &nodes[i]
-			group.Add(1)
-			go func() {
-				defer group.Done()
-				for time.Since(begin) < how {
-					if err := n.take(usage(1, 0)); err != nil {
-						t.Error(err)
-						return
-					}
-				}
-			}()
+		must(0, w.operator.SetShards(ctx, "a", it.shards))(t)
+		nodes := w.memoryNodes(t, it.nodes, func(c *Config) {
+			c.Batch, c.Patience, c.isUndivided = usage(0, 1<<20), time.Minute, it.isUndivided
+		})
+		how := fmt.Sprintf("in %d shards", it.shards)
+		if !it.isUndivided {
+			how = "in shards as they divide it"
 		}
-		group.Wait()
-		took := time.Since(begin)
-		var raises, lost uint64
+		fmt.Printf("figure: %d nodes at one tenant %s: %s\n", it.nodes, how, w.hot(t, nodes, 10*time.Second))
+		if shards := must(w.operator.Quota(ctx, "a"))(t).Shards; it.isUndivided && shards != it.shards || shards > it.nodes {
+			t.Errorf("%+v: %d shards", it, shards)
+		}
 		for _, n := range nodes {
-			metrics := must(n.Metrics(ctx))(t)
-			raises, lost = raises+metrics.Raises, lost+metrics.LostCompares
-		}
-		fmt.Printf("figure: 16 nodes at one tenant in %d shards: %.0f grants a second, %.2f lost compares each\n",
-			shards, float64(raises)/took.Seconds(), float64(lost)/float64(raises))
-		if faults := must(w.operator.Check(ctx))(t).Faults; len(faults) > 0 {
-			t.Error(faults)
+			n.Close()
 		}
 	}
+}
+
+// Grants of all for so long. What doesn't depend on other work on the machine: the transactions that each grant took, of
+// which each is a round trip, and the processors' time.
+func (w *world) hot(t testing.TB, nodes []memoryNode, how time.Duration) string {
+	t.Helper()
+	var group sync.WaitGroup
+	before, cpu, cpuOfEtcd, begin := w.sum(t, nodes), processorTime("self"), w.etcd.processorTime(), time.Now()
+	for i := range nodes {
+		n := &nodes[i]
+		group.Add(1)
+		go func() {
+			defer group.Done()
+			for time.Since(begin) < how {
+				if err := n.take(usage(1, 0)); err != nil {
+					t.Error(err)
+					return
+				}
+			}
+		}()
+	}
+	group.Wait()
+	took, after := time.Since(begin), w.sum(t, nodes)
+	cpu, cpuOfEtcd = processorTime("self")-cpu, w.etcd.processorTime()-cpuOfEtcd
+	grants, lost, reads := after.Raises-before.Raises, after.LostCompares-before.LostCompares, after.Reads-before.Reads
+	each := func(count float64) float64 { return count / float64(grants) }
+	if faults := must(w.operator.Check(ctx))(t).Faults; len(faults) > 0 {
+		t.Error(faults)
+	}
+	return fmt.Sprintf("%.0f grants a second; each %.2f transactions, %.2f of them lost compares and %.2f reads, and %.2f ms of agents and %.2f ms of etcd",
+		float64(grants)/took.Seconds(), each(float64(grants+lost+reads)), each(float64(lost)), each(float64(reads)),
+		each(cpu.Seconds()*1000), each(cpuOfEtcd.Seconds()*1000))
+}
+
+// The counters of all.
+func (w *world) sum(t testing.TB, nodes []memoryNode) (all Metrics) {
+	t.Helper()
+	for _, n := range nodes {
+		it := must(n.Metrics(ctx))(t)
+		all.Raises, all.LostCompares, all.Reads = all.Raises+it.Raises, all.LostCompares+it.LostCompares, all.Reads+it.Reads
+	}
+	return all
+}
+
+// The processors' time of a process, by proc(5): in hundredths of a second.
+func processorTime(process string) time.Duration {
+	text, _ := os.ReadFile("/proc/" + process + "/stat")
+	words := strings.Fields(string(text[strings.LastIndexByte(string(text), ')')+1:]))
+	if len(words) < 13 {
+		return 0
+	}
+	user, _ := strconv.ParseInt(words[11], 10, 64)
+	system, _ := strconv.ParseInt(words[12], 10, 64)
+	return time.Duration(user+system) * (time.Second / 100)
+}
+
+func (e *etcd) processorTime() (all time.Duration) {
+	for _, it := range e.members {
+		all += processorTime(strconv.Itoa(it.process.Process.Pid))
+	}
+	return all
 }
 
 // 1,000 nodes with 30 of 1,000 tenants each: what etcd keeps of them, and 500 grants a second.
@@ -260,16 +312,23 @@ func BenchmarkFiguresOfManyNodes(t *testing.B) {
 	of := must(all.current(ctx, 0))(t)
 	identity := func(i int) string { return fmt.Sprintf("%032x", i) }
 	tenant := func(node, i int) string { return fmt.Sprint("tenant-", (node*7+i*31)%tenants) }
+	// What each node knows of each tenant, and what its watch has told.
+	knows, tolds := make([]known, nodes*each), make([]tenantOfNode, nodes*each)
+	isWatched, lost := false, atomic.Int64{}
 	grant := func(node, i int, blocks uint64) error {
+		k, its := &knows[node*each+i], &tolds[node*each+i]
 		for {
-			var k known
-			err := all.read(ctx, of, identity(node), tenant(node, i), &k)
+			err := error(nil)
+			if !isWatched || !k.isFresh || !its.hear(k, of) {
+				err = all.read(ctx, of, identity(node), tenant(node, i), k)
+			}
 			if err == nil {
-				err = all.grant(ctx, of, identity(node), tenant(node, i), 0, &k, grantRecord{usage(blocks, blocks), "0123456789abcdef", blocks, of.Number})
+				err = all.grant(ctx, of, identity(node), tenant(node, i), 0, k, grantRecord{usage(blocks, blocks), "0123456789abcdef", blocks, of.Number})
 			}
 			if err != errLost {
 				return err
 			}
+			lost.Add(1)
 		}
 	}
 	parallel(t, nodes, workers, func(i int) error {
@@ -287,7 +346,106 @@ func BenchmarkFiguresOfManyNodes(t *testing.B) {
 	status := must(w.client.Status(ctx, w.etcd.members[0].client))(t)
 	fmt.Printf("figure: %d nodes with %d of %d tenants: %d keys, %.1f MB, a database of %.0f MB, members of %s\n",
 		nodes, each, tenants, len(keys.Kvs), float64(bytes)/1e6, float64(status.DbSize)/1e6, w.etcd.memory())
-	w.checkPace(t, asked, seconds, workers, func(i int) error { return grant(i%nodes, i/nodes%each, uint64(2+i)) })
+	write := func(i int) error { return grant(i%nodes, i/nodes%each, uint64(2+i)) }
+	w.checkPace(t, asked, seconds, workers, write)
+	var names [][]string
+	for i := 0; i < nodes; i++ {
+		names = append(names, nil)
+		for j := 0; j < each; j++ {
+			names[i] = append(names[i], tenant(i, j))
+		}
+	}
+	isWatched = true
+	end := w.beside(t, names, identity, func(node, i int, it *clientv3.Event) { tolds[node*each+i].tell(of, it) })
+	lost.Store(0)
+	w.checkPace(t, asked, seconds, workers, func(i int) error { return write(i + asked*seconds) })
+	fmt.Printf("figure: of these %.2f lost compares a grant\n", float64(lost.Load())/(asked*seconds))
+	end()
+}
+
+// What a watch has told of a tenant in one shard.
+type tenantOfNode struct {
+	mutex sync.Mutex
+	told  told
+}
+
+func (n *tenantOfNode) tell(of *generation, it *clientv3.Event) {
+	var record shardRecord
+	revision, err := takeOne(it.Kv, &record)
+	n.mutex.Lock()
+	defer n.mutex.Unlock()
+	n.told = told{of.generationRecord, map[int]toldShard{0: {knownShard{record.Free, revision}, err != nil}}}
+}
+
+func (n *tenantOfNode) hear(k *known, of *generation) bool {
+	n.mutex.Lock()
+	defer n.mutex.Unlock()
+	_, isAll := k.hear(&n.told, of)
+	return isAll
+}
+
+// What the agents of so many nodes with these tenants do beside their grants: each watches the shards of a tenant, and tells
+// every 5 seconds what its store is charged. Ends it, and prints what it was. An agent has two more watches of a tenant,
+// which grants tell nothing.
+func (w *world) beside(t testing.TB, names [][]string, identity func(int) string, tell func(node, i int, it *clientv3.Event)) (end func()) {
+	t.Helper()
+	const clients, report, workers = 16, 5 * time.Second, 64
+	bounded, cancel := context.WithCancel(clientv3.WithRequireLeader(ctx))
+	var all []*clientv3.Client
+	for i := 0; i < clients; i++ {
+		client := must(w.etcd.dial())(t)
+		t.Cleanup(func() { client.Close() })
+		all = append(all, client)
+	}
+	var events, watches, reports atomic.Int64
+	keys := w.operator.keys
+	parallel(t, len(names), workers, func(i int) error {
+		for j, tenant := range names[i] {
+			j, it := j, all[i%clients].Watch(bounded, keys.shards(tenant), clientv3.WithPrefix())
+			watches.Add(1)
+			go func() {
+				for told := range it {
+					events.Add(int64(len(told.Events)))
+					for _, event := range told.Events {
+						tell(i, j, event)
+					}
+				}
+			}()
+		}
+		return nil
+	})
+	memory, begin := w.etcd.memory(), time.Now()
+	var group sync.WaitGroup
+	for i := 0; i < workers; i++ {
+		i := i
+		group.Add(1)
+		go func() {
+			defer group.Done()
+			for at := i; bounded.Err() == nil; at += workers {
+				node := at % len(names)
+				due := begin.Add(time.Duration(at) * report / time.Duration(len(names)))
+				select {
+				case <-time.After(time.Until(due)):
+				case <-bounded.Done():
+					return
+				}
+				record := presence{fmt.Sprint("node-", node), time.Now().UnixMilli(), map[string]use{}}
+				for _, it := range names[node] {
+					record.Use[it] = use{usage(uint64(at), 1), usage(uint64(at), 1)}
+				}
+				if _, err := w.client.Put(bounded, keys.present(identity(node)), text(record)); err == nil {
+					reports.Add(1)
+				}
+			}
+		}()
+	}
+	return func() {
+		cancel()
+		group.Wait()
+		took := time.Since(begin).Seconds()
+		fmt.Printf("figure: beside them %d watches with %.0f events a second, and %.0f reports a second; members of %s\n",
+			watches.Load(), float64(events.Load())/took, float64(reports.Load())/took, memory)
+	}
 }
 
 // So many grants a second are asked for. How many there are, and what the median takes, from when it was to begin.

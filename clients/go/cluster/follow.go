@@ -69,10 +69,14 @@ func (a *Agent) follow(t *tenant) {
 		var found *clientv3.TxnResponse
 		err := a.ask(ctx, func(ctx context.Context) (err error) {
 			found, err = a.kv.Txn(ctx).Then(clientv3.OpGet(wants, clientv3.WithPrefix()), clientv3.OpGet(record, clientv3.WithKeysOnly()),
-				clientv3.OpGet(shards, clientv3.WithPrefix(), clientv3.WithKeysOnly())).Commit()
+				clientv3.OpGet(shards, clientv3.WithPrefix()), clientv3.OpGet(a.keys.generation())).Commit()
 			return err
 		})
 		if err != nil {
+			return
+		}
+		var of generationRecord
+		if _, err := take(answer(found, 3), &of); err != nil {
 			return
 		}
 		others := map[string]bool{}
@@ -81,10 +85,10 @@ func (a *Agent) follow(t *tenant) {
 		}
 		defer t.others.Store(0)
 		from := clientv3.WithRev(found.Header.Revision + 1)
-		t.seeNothing()
+		t.seeNothing(of)
 		for _, number := range []int{1, 2} {
 			for _, it := range answer(found, number).Kvs {
-				a.change(t, it)
+				a.change(t, it, true)
 			}
 		}
 		t.wakeWaiting()
@@ -92,7 +96,7 @@ func (a *Agent) follow(t *tenant) {
 			if key := string(it.Kv.Key); strings.HasPrefix(key, wants) {
 				a.recall(t, others, key, it.Type == mvccpb.PUT)
 			} else {
-				a.change(t, it.Kv)
+				a.change(t, it.Kv, it.Type == mvccpb.PUT)
 				t.wakeWaiting()
 			}
 		}, a.config.Client.Watch(ctx, record, from), a.config.Client.Watch(ctx, shards, from, clientv3.WithPrefix()),
@@ -100,27 +104,37 @@ func (a *Agent) follow(t *tenant) {
 	})
 }
 
-// The tenant's record or one of its shards has this revision.
-func (a *Agent) change(t *tenant, it *mvccpb.KeyValue) {
-	seen := &t.seen
-	if _, parts := a.keys.parts(string(it.Key)); len(parts) == 2 {
-		number, isShard := shardOf(parts[1])
-		if !isShard {
-			return
+// The tenant's record, or one of its shards, has this revision.
+func (a *Agent) change(t *tenant, it *mvccpb.KeyValue, isThere bool) {
+	_, parts := a.keys.parts(string(it.Key))
+	if len(parts) != 2 {
+		if it.ModRevision > t.seen.Load() {
+			t.seen.Store(it.ModRevision)
 		}
-		seen = &t.seenShards[number]
+		return
 	}
-	if it.ModRevision > seen.Load() {
-		seen.Store(it.ModRevision)
+	number, isShard := shardOf(parts[1])
+	if !isShard {
+		return
+	}
+	var record shardRecord
+	if isThere {
+		_, err := takeOne(it, &record)
+		isThere = err == nil
+	}
+	t.mutex.Lock()
+	defer t.mutex.Unlock()
+	if it.ModRevision > t.told.shards[number].revision {
+		t.told.shards[number] = toldShard{knownShard{record.Free, it.ModRevision}, !isThere}
 	}
 }
 
-// As a watch begins: what an earlier one has told may be of before a restore.
-func (t *tenant) seeNothing() {
+// As a watch begins, in a generation: what an earlier one has told may be of before a restore.
+func (t *tenant) seeNothing(of generationRecord) {
 	t.seen.Store(0)
-	for i := range t.seenShards {
-		t.seenShards[i].Store(0)
-	}
+	t.mutex.Lock()
+	defer t.mutex.Unlock()
+	t.told = told{of, map[int]toldShard{}}
 }
 
 // Another store waits for room, or no longer.

@@ -24,6 +24,10 @@ type generation struct {
 // ErrRestored is the error of what can't be done in a generation that isn't open, or that has ended meanwhile.
 var ErrRestored = errors.New("etcd was restored from a backup, and isn't reopened")
 
+// ErrOtherFormat is the cause of a *BadRecord where the keys are of another format than this package's, as a later or an
+// earlier version has written them. Nothing is written over them.
+var ErrOtherFormat = errors.New("the keys in etcd are of another format")
+
 // The error of an operator's call.
 func restored(err error) error {
 	if errors.Is(err, errGeneration) {
@@ -35,6 +39,12 @@ func restored(err error) error {
 // That the generation is the one in etcd, in this phase.
 func (g *generation) isCurrent(keys keys) clientv3.Cmp {
 	return clientv3.Compare(clientv3.Value(keys.generation()), "=", g.text)
+}
+
+// Whether it is this one, in whatever phase.
+func (g *generation) isSame(other generationRecord) bool {
+	other.Phase = g.Phase
+	return g.Number > 0 && g.generationRecord == other
 }
 
 // Whether an answer has it.
@@ -50,12 +60,13 @@ func newGeneration(number uint64, cluster, phase string) (*generation, error) {
 	if _, err := rand.Read(bits[:]); err != nil {
 		return nil, err
 	}
-	record := generationRecord{number, cluster, hex.EncodeToString(bits[:]), phase}
+	record := generationRecord{format, number, cluster, hex.EncodeToString(bits[:]), phase}
 	return &generation{record, text(record)}, nil
 }
 
-// current reads the generation. It begins the first one, and the next one where etcd was restored. Where that was seen by a
-// revision alone, a closed generation after the last one that is known is of this restore.
+// current reads the generation, which is ErrOtherFormat where it is of another format. It begins the first one, and the next
+// one where etcd was restored. Where that was seen by a revision alone, a closed generation after the last one that is known
+// is of this restore.
 func (t *transactions) current(ctx context.Context, last uint64) (*generation, error) {
 	key := t.keys.generation()
 	for {
@@ -70,6 +81,9 @@ func (t *transactions) current(ctx context.Context, last uint64) (*generation, e
 		}
 		phase := isOpen
 		if revision != 0 {
+			if now.Format != format {
+				return nil, &BadRecord{key, ErrOtherFormat}
+			}
 			now.text = string(answer(r, 0).Kvs[0].Value)
 			isOther := now.Cluster != clusterOf(r)
 			if isBack := t.isBack.Load(); !isOther && (!isBack || now.Phase == isClosed && now.Number > last) {
@@ -84,22 +98,32 @@ func (t *transactions) current(ctx context.Context, last uint64) (*generation, e
 	}
 }
 
-// next begins the generation after one, unless another one has begun.
+// next begins the generation after one, unless another one has begun. The first one begins where nothing is kept: what is
+// there without a generation is of the first format.
 func (t *transactions) next(ctx context.Context, now *generation, revision int64, cluster, phase string) error {
 	next, err := newGeneration(now.Number+1, cluster, phase)
 	if err != nil {
 		return err
 	}
 	key := t.keys.generation()
-	is := isGone(key)
-	if revision != 0 {
-		is = now.isCurrent(t.keys)
+	ifs, elses := []clientv3.Cmp{now.isCurrent(t.keys)}, []clientv3.Op(nil)
+	if revision == 0 {
+		ifs = []clientv3.Cmp{isGone(key)}
+		elses = []clientv3.Op{clientv3.OpGet(key, clientv3.WithCountOnly())}
+		for _, it := range t.keys.kept() {
+			ifs = append(ifs, isGone(it).WithPrefix())
+		}
 	}
-	r, err := t.commit(ctx, nil, []clientv3.Cmp{is}, []clientv3.Op{clientv3.OpPut(key, next.text)}, nil)
-	if err == nil && r.Succeeded {
+	r, err := t.commit(ctx, nil, ifs, []clientv3.Op{clientv3.OpPut(key, next.text)}, elses)
+	switch {
+	case err != nil:
+		return err
+	case r.Succeeded:
 		t.isBack.Store(false)
+	case revision == 0 && answer(r, 0).Count == 0:
+		return &BadRecord{t.keys.prefix, ErrOtherFormat}
 	}
-	return err
+	return nil
 }
 
 // The generation, where it is open.

@@ -63,14 +63,14 @@ func (w *world) history() []revision {
 
 // What a revision may change: one of the transactions, or hints. A shard of a tenant's pool is "s".
 var shapes = map[string]string{
-	"+j": "join", "+g +s": "grant", "+g +t": "grant", "+g +s +t": "grant", "+s +t": "limit", "+s +t -s": "limit", "+f -j": "mark",
+	"+j": "join", "+g +s": "grant", "+g +t": "grant", "+g +s +t": "grant", "+t": "still", "+s +t": "limit", "+s +t -s": "limit", "+f -j": "mark",
 	"+s -g": "free", "+t -g": "free", "+s +t -g": "free", "-g": "drop", "+e": "generation", "+g +j": "register",
 	"+a": "", "-a": "", "+w": "", "-w": "", "+d": "", "-d": "", "-a -w": "",
 }
 
 // How many keys of grants, and of tenants, a revision of each kind may change.
 var mostKeys = map[string][2]int{
-	"grant": {1, 1}, "limit": {0, 1}, "free": {1, 1}, "drop": {1, 0}, "register": {MostShards, 0},
+	"grant": {1, 1}, "limit": {0, 1}, "still": {0, 1}, "free": {1, 1}, "drop": {1, 0}, "register": {MostShards, 0},
 }
 
 func (r *revision) kind(keys keys) (string, error) {
@@ -117,10 +117,10 @@ func (w *world) checkFrom(s *snapshot, history []revision) (kinds map[string]int
 			w.t.Fatal(err)
 		}
 		kinds[kind]++
-		before := map[string]Usage{}
+		before, records := map[string]Usage{}, map[string]tenantRecord{}
 		for key := range it.changes {
 			if letter, parts := w.operator.keys.parts(key); letter == "t" {
-				before[parts[0]] = s.grantedOf(parts[0])
+				before[parts[0]], records[parts[0]] = s.grantedOf(parts[0]), s.tenants[parts[0]]
 			}
 		}
 		wasOpen := s.isOpen()
@@ -140,6 +140,9 @@ func (w *world) checkFrom(s *snapshot, history []revision) (kinds map[string]int
 			w.t.Fatalf("revision %d: %v", it.number, faults)
 		}
 		for tenant, old := range before {
+			if kind == "still" && s.tenants[tenant] != records[tenant] {
+				w.t.Fatalf("revision %d: tenant %s: the record alone is written, and has changed", it.number, tenant)
+			}
 			if why := overgranted(old, s.grantedOf(tenant), s.tenants[tenant].Limit); why != "" && wasOpen {
 				w.t.Fatalf("revision %d: tenant %s: %s", it.number, tenant, why)
 			}
@@ -598,7 +601,7 @@ func (w *walking) take(kind string, it *revision, change model.Change, wasOpen b
 		return w.granted(store, grant, model.Change{})
 	case kind == "" || !isOfTenant:
 		return nil
-	case kind == "limit" && wasOpen:
+	case (kind == "limit" || kind == "still") && wasOpen:
 		return w.SetLimit(w.of(w.now.tenants[w.tenant].Limit), w.free())
 	case w.State().IsClosed:
 		// What a restored etcd has carried out before the next generation began is answered to nobody, and counts for

@@ -48,6 +48,11 @@ func (k keys) drained(store string) string { return k.prefix + "/d/" + store }
 
 // The beginnings of keys.
 
+// Those of all that grants depend on, but for the generation.
+func (k keys) kept() []string {
+	return []string{k.tenants(), k.grants(), k.joined(""), k.forgotten("")}
+}
+
 func (k keys) tenants() string              { return k.prefix + "/t/" }
 func (k keys) shards(tenant string) string  { return k.tenant(tenant) + "/" }
 func (k keys) grants() string               { return k.prefix + "/g/" }
@@ -84,9 +89,14 @@ const (
 	isSumming = "summing"
 )
 
+// The number of the format of all keys, which is in the generation and in each tenant's record. Nothing is written over
+// records of another one. The first format had a tenant's pool in its record, and the second one no number.
+const format = 3
+
 // A generation of all grants. The next one begins where etcd was restored from a backup. Each transaction compares its
 // text, so that none from before is carried out.
 type generationRecord struct {
+	Format int    `json:"v"`
 	Number uint64 `json:"e"`
 	// Cluster is the id of etcd's cluster, and Mark are random bits, so that no two generations are the same.
 	Cluster string `json:"c"`
@@ -100,6 +110,31 @@ type tenantRecord struct {
 	Debt   Usage `json:"d"`
 	Shards int   `json:"k"`
 }
+
+// MarshalJSON puts the format where the first one had a pair of numbers, so that nobody takes the record by that.
+func (r tenantRecord) MarshalJSON() ([]byte, error) {
+	return json.Marshal(struct {
+		Format int `json:"s"`
+		tenantFields
+	}{format, tenantFields(r)})
+}
+
+// UnmarshalJSON takes a record of this format alone.
+func (r *tenantRecord) UnmarshalJSON(text []byte) error {
+	var it struct {
+		Format json.RawMessage `json:"s"`
+	}
+	if err := json.Unmarshal(text, &it); err != nil {
+		return err
+	}
+	if string(it.Format) != strconv.Itoa(format) {
+		return ErrOtherFormat
+	}
+	return json.Unmarshal(text, (*tenantFields)(r))
+}
+
+// A tenant's record without its format.
+type tenantFields tenantRecord
 
 type shardRecord struct {
 	Free Usage `json:"f"`

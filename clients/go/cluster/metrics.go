@@ -13,8 +13,10 @@ type Metrics struct {
 	// LostCompares are transactions that weren't carried out, since a key had changed meanwhile. Unanswered are those
 	// whose answer never came.
 	LostCompares, Unanswered uint64
-	// Reads are those of a tenant's record and grant.
+	// Reads are those of a tenant's record, shards and grant.
 	Reads uint64
+	// Divisions are how often this agent has divided a pool among more shards.
+	Divisions uint64
 	// Recalls are how often this store has asked others to give back.
 	Recalls uint64
 	// RefusalsWithRoom are refused charges for which another node that answers had enough in both quantities, as it had

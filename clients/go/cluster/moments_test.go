@@ -296,7 +296,7 @@ func TestChecksFind(t *testing.T) {
 		{map[string][]byte{"/p/t/a": {1}, "/p/t/a/0": {1}, "/p/t/a/1": nil}, "limit", false},
 		{map[string][]byte{"/p/t/a/0": {1}, "/p/g/s/a": nil}, "free", false}, {map[string][]byte{"/p/a/s": {1}}, "", false},
 		{map[string][]byte{"/p/j/s": {1}, "/p/g/s/a": {1}, "/p/g/s/b": {1}}, "register", false},
-		{map[string][]byte{"/p/g/s/a": {1}}, "", true}, {map[string][]byte{"/p/t/a": nil}, "", true}, {map[string][]byte{"/p/t/a": {1}}, "", true},
+		{map[string][]byte{"/p/g/s/a": {1}}, "", true}, {map[string][]byte{"/p/t/a": nil}, "", true}, {map[string][]byte{"/p/t/a": {1}}, "still", false},
 		{map[string][]byte{"/p/j/s": nil}, "", true}, {map[string][]byte{"/p/t/a/0": {1}, "/p/t/b/0": {1}, "/p/g/s/a": {1}}, "", true},
 		{map[string][]byte{"/p/t/a/0": {1}, "/p/g/r/a": {1}, "/p/g/s/a": {1}}, "", true},
 	} {

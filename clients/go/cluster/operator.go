@@ -65,8 +65,9 @@ type TenantQuota struct {
 	Holdings []Holding
 }
 
-// SetLimit sets a tenant's limit, and makes the tenant where it isn't there, with a pool in one shard. It may be below what is granted: nothing is
-// evicted, no grant is raised any more, and the answer tells how much is to come back, Above, and who has it.
+// SetLimit sets a tenant's limit, and makes the tenant where it isn't there, with a pool in one shard. It may be below what
+// is granted: nothing is evicted, no grant is raised any more, and the answer tells how much is to come back, Above, and who
+// has it.
 //
 // Where it ends with an error of etcd or of the context, the limit may have been set; it may be set again.
 func (o *Operator) SetLimit(ctx context.Context, tenant string, limit Usage) (TenantQuota, error) {
@@ -86,7 +87,7 @@ func (o *Operator) SetLimit(ctx context.Context, tenant string, limit Usage) (Te
 }
 
 // SetShards keeps what of a tenant's limit is free in so many shards, from 1 to MostShards. Each store takes from one of
-// them first, so that stores at different ones don't hinder each other. It is ErrNoTenant where no limit was set, ErrBadShards
+// them first, so that stores at different ones don't hinder each other. Where they do, agents divide it further. It is ErrNoTenant where no limit was set, ErrBadShards
 // for another number, and ErrRestored where etcd was restored and isn't reopened.
 func (o *Operator) SetShards(ctx context.Context, tenant string, shards int) error {
 	if shards < 1 || shards > MostShards {
@@ -342,6 +343,9 @@ func (s *snapshot) put(keys keys, key string, value []byte) error {
 	if kind == "e" && len(parts) == 0 {
 		if err := json.Unmarshal(value, &s.generation); err != nil {
 			return &BadRecord{key, err}
+		}
+		if s.generation.Format != format {
+			return &BadRecord{key, ErrOtherFormat}
 		}
 		return nil
 	}

@@ -18,6 +18,8 @@ type known struct {
 	shards    []knownShard
 	grant     grantRecord
 	grantRev  int64
+	// As of which revision all was read.
+	read int64
 	// Whether nothing is known that is later.
 	isFresh bool
 }
@@ -25,6 +27,36 @@ type known struct {
 type knownShard struct {
 	free     Usage
 	revision int64
+}
+
+// What a watch has told of a tenant's shards, in a generation.
+type told struct {
+	of     generationRecord
+	shards map[int]toldShard
+}
+
+type toldShard struct {
+	knownShard
+	isGone bool
+}
+
+// Takes what a watch has told of shards since they were read: no transaction is carried out in which one isn't as it is
+// known to be. The greatest revision of these, and whether it was all: what is told of another generation, or of another
+// number of shards, has to be read.
+func (k *known) hear(told *told, of *generation) (latest int64, isAll bool) {
+	for at, it := range told.shards {
+		switch {
+		case it.revision <= k.read || at < len(k.shards) && it.revision <= k.shards[at].revision:
+			continue
+		case at >= len(k.shards) || it.isGone || !of.isSame(told.of):
+			return latest, false
+		}
+		k.shards[at] = it.knownShard
+		if latest < it.revision {
+			latest = it.revision
+		}
+	}
+	return latest, true
 }
 
 // What is free in all shards.
@@ -87,7 +119,7 @@ func (k *known) take(r *clientv3.TxnResponse, number int, keys keys) (err error)
 	if now.grantRev, err = take(answer(r, number+2), &now.grant); err != nil {
 		return err
 	}
-	now.isFresh = true
+	now.isFresh, now.read = true, r.Header.Revision
 	*k = now
 	return nil
 }

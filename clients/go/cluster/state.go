@@ -195,10 +195,18 @@ func (a *Agent) joinOnce() bool {
 		a.closed()
 		err = a.register(of)
 	}
+	var other *BadRecord
+	errors.As(err, &other)
+	a.other.Store(other)
 	switch {
 	case errors.Is(err, Forgotten):
 		a.finish(&StateError{State: Forgotten})
 		return true
+	case other != nil:
+		a.generation.Store(noGeneration)
+		a.tell()
+		a.await(a.join, a.config.Report)
+		return false
 	case err != nil:
 		return false
 	case of.Phase == isOpen && isIn:
@@ -334,11 +342,13 @@ func (a *Agent) wakeJoin() {
 func (a *Agent) isJoined() bool { return a.generation.Load() != noGeneration }
 
 func (a *Agent) notJoined() *StateError {
-	state := NotJoined
-	if a.isRestored.Load() {
-		state = Restored
+	switch other := a.other.Load(); {
+	case other != nil:
+		return &StateError{State: OtherFormat, Store: a.store, Cause: other}
+	case a.isRestored.Load():
+		return &StateError{State: Restored, Store: a.store}
 	}
-	return &StateError{State: state, Store: a.store}
+	return &StateError{State: NotJoined, Store: a.store}
 }
 
 // A signal for all that wait for it.

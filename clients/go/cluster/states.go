@@ -14,7 +14,7 @@ type State string
 
 func (s State) Error() string { return string(s) }
 
-// What a node does in each state. In the first five it serves, and goes from one to the other by itself.
+// What a node does in each state. In the first six it serves, and goes from one to the other by itself.
 const (
 	// Serving: all tenants are settled and etcd answers. Charges within the grant don't wait, and others ask etcd.
 	Serving State = "Serving"
@@ -31,6 +31,10 @@ const (
 	// Restored: etcd was restored from a backup. The node has registered its store's own limits, or tries to, and charges
 	// within them. A charge that needs more is refused, with this cause, until an operator has reopened the cluster.
 	Restored State = "Restored"
+	// OtherFormat: the keys in etcd are of another format, as another version of this package has written them. The node
+	// writes nothing over them, and charges within its store's own limits. A charge that needs more is refused, with this
+	// cause. It asks again by itself.
+	OtherFormat State = "OtherFormat"
 
 	// Forgotten: an operator has said that the store's data are destroyed, and yet it is here. Others may have what it
 	// was granted. This and the next two are ends: each charge by the agent is refused, the store's own limits are lowered

@@ -275,7 +275,7 @@ func TestOperator(t *testing.T) {
 	equal(t, checked.Tenants[1].Tenant, "b/c")
 	w.check()
 	// Check finds what isn't so.
-	must(w.client.Put(ctx, w.operator.keys.tenant("a"), `{"l":[100,100],"d":[0,0],"k":2}`))(t)
+	must(w.client.Put(ctx, w.operator.keys.tenant("a"), `{"s":3,"l":[100,100],"d":[0,0],"k":2}`))(t)
 	must(w.client.Put(ctx, w.operator.keys.grant("x", "d"), `{"g":[1,1],"p":"y","n":1}`))(t)
 	checked = must(w.operator.Check(ctx))(t)
 	equal(t, len(checked.Faults), 3)

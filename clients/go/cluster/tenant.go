@@ -33,9 +33,11 @@ type tenant struct {
 	away   error
 	missed time.Time
 
-	// The last revisions of the tenant's record and of its shards that the watch has told.
-	seen       atomic.Int64
-	seenShards [MostShards]atomic.Int64
+	// How long a transaction of it takes, about.
+	trip time.Duration
+
+	// The last revision of the tenant's record that the watch has told.
+	seen atomic.Int64
 	// When a charge was last made, in nanoseconds since 1970.
 	charged atomic.Int64
 	// Whether the store joined only now, so that nothing was granted before.
@@ -46,6 +48,8 @@ type tenant struct {
 	others atomic.Int64
 
 	mutex sync.Mutex
+	// What the watch has told of its shards.
+	told told
 	// What charges that have got their room are about to take, and how many wait for room.
 	reserved Usage
 	waits    int
@@ -196,7 +200,7 @@ func (a *Agent) raiseOnce(ctx context.Context, t *tenant, need Usage, begin time
 		}
 	}()
 	for losses, isLatest := 0, false; ; losses++ {
-		a.backOff(losses)
+		a.backOff(t, losses)
 		if losses > 0 && time.Since(begin) > a.config.Patience+a.config.Timeout {
 			return ErrBusy
 		}
@@ -226,10 +230,6 @@ func (a *Agent) raiseOnce(ctx context.Context, t *tenant, need Usage, begin time
 		}
 		isLatest = isLatest || isRead
 		to, err := a.next(t, quota, lacks)
-		if err == nil && t.isOld(t.known.plan(to, t.home(a))) {
-			t.known.isFresh = false
-			continue
-		}
 		if err == errShort && !isLatest {
 			// The watch may tell late of room. A refusal is by what etcd has answered since the charge began.
 			t.known.isFresh = false
@@ -252,7 +252,37 @@ func (a *Agent) raiseOnce(ctx context.Context, t *tenant, need Usage, begin time
 			return err
 		}
 		isLatest = true
+		if losses >= lossesToDivide {
+			if err := a.divide(ctx, t, lacks); err != nil {
+				return err
+			}
+		}
 	}
+}
+
+// How many compares a raise loses before the pool is divided further.
+const lossesToDivide = 2
+
+// Divides a pool among twice as many shards, for stores that hinder each other at those that there are: no more than there
+// are stores, and where each of them covers then what is lacking. Where another one has changed it meanwhile, it is left.
+func (a *Agent) divide(ctx context.Context, t *tenant, lacks Usage) error {
+	shards := least(2*len(t.known.shards), least(int(a.stores.Load()), MostShards))
+	free := t.known.free()
+	each := Usage{Blocks: free.Blocks / uint64(shards), Inodes: free.Inodes / uint64(shards)}
+	if a.config.isUndivided || shards <= len(t.known.shards) || !covers(each, lacks) {
+		return nil
+	}
+	of := a.generation.Load()
+	err := a.ask(ctx, func(ctx context.Context) error {
+		return a.transactions.divide(ctx, of, a.store, t.name, &t.known, shards)
+	})
+	switch {
+	case err == nil:
+		a.count(func(m *Metrics) { m.Divisions++ })
+	case err != errLost:
+		return a.look(of, err)
+	}
+	return nil
 }
 
 // The grant to ask for.
@@ -299,16 +329,6 @@ func shareOfShard(share, shards uint64) uint64 {
 // The store's own shard: they are shared out among the stores in order.
 func (t *tenant) home(a *Agent) int { return int(a.place.Load()) % len(t.known.shards) }
 
-// Whether the watch has told of later records than those that a plan is made of.
-func (t *tenant) isOld(plan plan) bool {
-	for at := range plan.free {
-		if t.seenShards[at].Load() > t.known.shards[at].revision {
-			return true
-		}
-	}
-	return t.seen.Load() > t.known.tenantRev
-}
-
 // Has etcd grant `to`, always by a write, and then raises the store's own limit to that. The turn is had.
 func (a *Agent) grantAndSet(ctx context.Context, t *tenant, to, bound Usage) error {
 	if a.config.isUnwritten && covers(t.known.grant.Grant, to) {
@@ -338,13 +358,13 @@ func (a *Agent) setBound(ctx context.Context, t *tenant, to Usage) error {
 	return err
 }
 
-// Knows the tenant's record and the store's grant, by a read where the watch has told of a later record, or an answer
-// didn't come. It ends where the store's own limit is above its grant, or another process has written that. Whether it has
-// read.
+// Knows the tenant's record, its shards and the store's grant: shards as the watch has told them, and all by a read where
+// that has told of a later record, or an answer didn't come. It ends where the store's own limit is above its grant, or
+// another process has written that. Whether it has read.
 func (a *Agent) know(ctx context.Context, t *tenant, bound Usage) (isRead bool, err error) {
-	if !t.known.isFresh || t.seen.Load() > t.known.tenantRev {
+	of := a.generation.Load()
+	if !t.known.isFresh || t.seen.Load() > t.known.tenantRev || !a.hear(t, of) {
 		a.count(func(m *Metrics) { m.Reads++ })
-		of := a.generation.Load()
 		err := a.ask(ctx, func(ctx context.Context) error { return a.read(ctx, of, a.store, t.name, &t.known) })
 		if err != nil {
 			return true, a.look(of, err)
@@ -352,6 +372,16 @@ func (a *Agent) know(ctx context.Context, t *tenant, bound Usage) (isRead bool, 
 		isRead = true
 	}
 	return isRead, a.compare(t, bound)
+}
+
+// Takes what the watch has told of shards. Whether that is all. An etcd that answers an earlier revision afterwards was
+// restored.
+func (a *Agent) hear(t *tenant, of *generation) bool {
+	t.mutex.Lock()
+	defer t.mutex.Unlock()
+	latest, isAll := t.known.hear(&t.told, of)
+	a.see(latest, 0)
+	return isAll
 }
 
 func (a *Agent) compare(t *tenant, bound Usage) error {
@@ -376,9 +406,11 @@ func (a *Agent) write(ctx context.Context, t *tenant, to, bound Usage) error {
 	of, home := a.generation.Load(), t.home(a)
 	record := grantRecord{to, a.process, t.number, of.Number}
 	a.config.note(event{Kind: sending, Tenant: t.name, To: to, Number: t.number})
+	begin := time.Now()
 	err := a.ask(ctx, func(ctx context.Context) error {
 		return a.grant(ctx, of, a.store, t.name, home, &t.known, record)
 	})
+	t.took(time.Since(begin))
 	switch {
 	case err == nil:
 		a.config.note(event{Kind: answered, Tenant: t.name, To: to, Number: t.number})
@@ -428,7 +460,7 @@ func (a *Agent) lower(ctx context.Context, t *tenant, keep Usage) error {
 // Sets the grant to the store's own limit. The turn is had.
 func (a *Agent) settle(ctx context.Context, t *tenant) error {
 	for losses := 0; ; losses++ {
-		a.backOff(losses)
+		a.backOff(t, losses)
 		quota, err := a.config.Store.Quota(ctx, t.name)
 		if err != nil {
 			return err
@@ -470,15 +502,30 @@ func (a *Agent) settledOne(t *tenant) {
 	}
 }
 
-// Waits a moment, and the longer the more compares were lost.
-func (a *Agent) backOff(losses int) {
-	if losses < 2 {
+// How long is waited after a lost compare, at the most, also where etcd is slow.
+const mostBackOff = 400 * time.Millisecond
+
+// Waits a moment where compares were lost, and the longer the more: at random within as many transactions as there may be
+// stores that want the same shard. What the watch tells meanwhile is known then.
+func (a *Agent) backOff(t *tenant, losses int) {
+	if losses == 0 {
 		return
 	}
-	if losses > 6 {
-		losses = 6
+	others := least(1<<least(losses, 6), int(a.stores.Load()))
+	window := t.trip * time.Duration(others)
+	if window > mostBackOff {
+		window = mostBackOff
 	}
-	a.sleep(time.Duration(rand.Int63n(int64(time.Millisecond) << losses)))
+	a.sleep(time.Duration(rand.Int63n(int64(window) + 1)))
+}
+
+// How long a transaction of the tenant takes, about: by each that was answered the last one's weight is halved in some five
+// more.
+func (t *tenant) took(it time.Duration) {
+	if t.trip == 0 {
+		t.trip = it
+	}
+	t.trip += (it - t.trip) / 8
 }
 
 // Keeps a tenant: settles it, and gives back what isn't used.

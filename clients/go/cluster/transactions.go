@@ -185,28 +185,18 @@ func (t *transactions) limit(ctx context.Context, tenant string, change func(*te
 	if err != nil {
 		return err
 	}
-	key, reads := t.keys.tenant(tenant), t.keys.reads("", tenant)[:2]
+	var k known
 	for {
-		r, err := t.commit(ctx, of, nil, reads, nil)
-		if err != nil {
+		if err := t.still(ctx, of, tenant, &k); err != nil {
 			return restored(err)
 		}
-		var old tenantRecord
-		var shards []knownShard
-		revision, err := take(answer(r, 0), &old)
-		if err == nil && revision != 0 {
-			shards, err = takeShards(answer(r, 1), t.keys, old.Shards)
-		}
-		if err != nil {
-			return err
-		}
-		k := known{tenant: old, tenantRev: revision, shards: shards}
-		next := old
+		next := k.tenant
 		if err := change(&next); err != nil {
 			return err
 		}
-		ifs, thens := t.divide(tenant, &k, next)
-		w, err := t.commit(ctx, of, append(ifs, isOf(key, revision), of.isCurrent(t.keys)), thens, []clientv3.Op{clientv3.OpGet(t.keys.generation())})
+		ifs, thens := t.divided(tenant, &k, next)
+		ifs = append(ifs, isOf(t.keys.tenant(tenant), k.tenantRev), of.isCurrent(t.keys))
+		w, err := t.commit(ctx, of, ifs, thens, []clientv3.Op{clientv3.OpGet(t.keys.generation())})
 		if err != nil || w.Succeeded {
 			return restored(err)
 		}
@@ -216,8 +206,48 @@ func (t *transactions) limit(ctx context.Context, tenant string, change func(*te
 	}
 }
 
+// still reads a tenant's record and shards. Where they were read before, it writes the record as it is, which voids all
+// grants under way: where stores take from each shard all the time, nobody else would find all as they were read.
+func (t *transactions) still(ctx context.Context, of *generation, tenant string, k *known) (err error) {
+	key, reads := t.keys.tenant(tenant), t.keys.reads("", tenant)[:2]
+	ifs, thens := []clientv3.Cmp{of.isCurrent(t.keys)}, reads
+	if k.tenantRev != 0 {
+		ifs, thens = append(ifs, isOf(key, k.tenantRev)), append([]clientv3.Op{put(key, k.tenant)}, reads...)
+	}
+	r, err := t.commit(ctx, of, ifs, thens, reads)
+	if err != nil {
+		return err
+	}
+	*k = known{}
+	first := len(r.Responses) - len(reads)
+	if k.tenantRev, err = take(answer(r, first), &k.tenant); err == nil && k.tenantRev != 0 {
+		k.shards, err = takeShards(answer(r, first+1), t.keys, k.tenant.Shards)
+	}
+	return err
+}
+
+// divide keeps what is free of a tenant in so many shards, for a store that has joined. It is a transaction of a limit, with
+// the one that there is. Where it is errLost nothing was written.
+func (t *transactions) divide(ctx context.Context, of *generation, store, tenant string, k *known, shards int) error {
+	next, joined := k.tenant, t.keys.joined(store)
+	next.Shards = shards
+	ifs, thens := t.divided(tenant, k, next)
+	ifs = append(ifs, isOf(t.keys.tenant(tenant), k.tenantRev), of.isCurrent(t.keys), isThere(joined))
+	k.isFresh = false
+	r, err := t.commit(ctx, of, ifs, thens, []clientv3.Op{clientv3.OpGet(joined, clientv3.WithCountOnly()), clientv3.OpGet(t.keys.generation())})
+	switch {
+	case err != nil || r.Succeeded:
+		return err
+	case answer(r, 0).Count == 0:
+		return errNotJoined
+	case !of.isIn(answer(r, 1)):
+		return errGeneration
+	}
+	return errLost
+}
+
 // What writes a tenant's record and each of its shards, as the next record has them.
-func (t *transactions) divide(tenant string, k *known, next tenantRecord) (ifs []clientv3.Cmp, thens []clientv3.Op) {
+func (t *transactions) divided(tenant string, k *known, next tenantRecord) (ifs []clientv3.Cmp, thens []clientv3.Op) {
 	record, parts := dividedOf(next.Limit, k.granted(), next.Shards)
 	thens = []clientv3.Op{put(t.keys.tenant(tenant), record)}
 	for i := 0; i < len(k.shards) || i < len(parts); i++ {

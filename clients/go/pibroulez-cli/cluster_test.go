@@ -161,6 +161,18 @@ func TestClusterFaults(t *testing.T) {
 			t.Errorf("%v: %d, %s", args, status, errs)
 		}
 	}
+	// Nothing is written over keys of another format.
+	_, err = etcdtest.Client(t, endpoint).Put(ctx, "/old/t/a", `{"l":[30,30],"s":[0,0]}`)
+	granted(t, err)
+	for _, args := range [][]string{
+		{"quota"}, {"limit", "a", "1/1"}, {"shards", "a", "2"}, {"nodes"}, {"check"}, {"restored"}, {"reopen", "--all-registered"}, {"drain", "one"},
+		{"forget", strings.Repeat("ab", 16), "--data-destroyed"},
+	} {
+		_, errs, status := onEtcd(t, endpoint, nil, append(args, "--prefix", "/old")...)
+		if status != failed || !strings.Contains(errs, cluster.ErrOtherFormat.Error()) {
+			t.Errorf("%v: %d, %s", args, status, errs)
+		}
+	}
 	for _, args := range [][]string{{"nodes", "--socket", "x"}, {"other"}, {}, {"drain"}} {
 		if _, errs, status := onEtcd(t, endpoint, nil, args...); status != wrongWords {
 			t.Errorf("%v: %d, %s", args, status, errs)

@@ -140,6 +140,7 @@ var counted = []struct {
 	{described("lowerings_total", "How often one was lowered."), func(m cluster.Metrics) uint64 { return m.Lowerings }},
 	{described("settles_total", "How often a grant was set to the store's own limit."), func(m cluster.Metrics) uint64 { return m.Settles }},
 	{described("lost_compares_total", "The transactions that came after a change of another."), func(m cluster.Metrics) uint64 { return m.LostCompares }},
+	{described("divisions_total", "How often a pool was divided among more shards."), func(m cluster.Metrics) uint64 { return m.Divisions }},
 	{described("unanswered_total", "The transactions whose answer never came."), func(m cluster.Metrics) uint64 { return m.Unanswered }},
 	{described("recalls_total", "How often others were asked to give back."), func(m cluster.Metrics) uint64 { return m.Recalls }},
 	{described("refusals_with_room_total", "The refused charges for which another node had room."), func(m cluster.Metrics) uint64 { return m.RefusalsWithRoom }},

@@ -5,9 +5,11 @@ import (
 	"fmt"
 	"strings"
 	"testing"
+	"time"
 
 	"github.com/containerd/containerd/errdefs"
 	"github.com/containerd/containerd/namespaces"
+	"go.etcd.io/etcd/clientv3"
 
 	"pibroulez.example/pibroulez"
 	"pibroulez.example/pibroulez/cluster"
@@ -134,6 +136,38 @@ func TestContainerdInCluster(t *testing.T) {
 	_, err = p.connect(t).Prepare(ctx, "a", "k", "")
 	isError(t, err, pibroulez.ErrOverLimit)
 	it.end(t)
+}
+
+// So a daemon does where the keys in etcd are of another format, and says so.
+func TestKeysOfAnotherFormat(t *testing.T) {
+	endpoint := etcdtest.Start(t)
+	client := etcdtest.Client(t, endpoint)
+	const key, record = "/pibroulez/t/a", `{"l":[30,30],"s":[0,0]}`
+	_, err := client.Put(ctx, key, record)
+	granted(t, err)
+	p := newPlace(t)
+	p.configure(t, strings.ReplaceAll(p.clustered(endpoint, "one", ""), "20s", "1s"))
+	it := p.start(t)
+	_, err = p.connect(t).Prepare(ctx, "a", "k", "")
+	isError(t, err, pibroulez.ErrOverLimit)
+	var refusal *pibroulez.Refusal
+	for end := time.Now().Add(time.Minute); ; {
+		if errors.As(err, &refusal) && strings.Contains(refusal.Words, string(cluster.OtherFormat)) && strings.Contains(refusal.Words, cluster.ErrOtherFormat.Error()) {
+			break
+		}
+		if time.Now().After(end) {
+			t.Fatal(err)
+		}
+		_, err = p.connect(t).Prepare(ctx, "a", "k", "")
+	}
+	it.end(t)
+	found, err := client.Get(ctx, "/pibroulez/", clientv3.WithPrefix())
+	granted(t, err)
+	for _, it := range found.Kvs {
+		if !strings.HasPrefix(string(it.Key), "/pibroulez/a/") && (string(it.Key) != key || string(it.Value) != record) {
+			t.Errorf("%s is written: %s", it.Key, it.Value)
+		}
+	}
 }
 
 // Without etcd a daemon begins, and refuses what needs more than it has.

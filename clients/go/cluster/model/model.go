@@ -229,8 +229,9 @@ type Model struct {
 	Wrong Wrong
 	// MostSent is how many transactions of a store may still be applied at one time; one more is lost.
 	MostSent uint8
-	// Rewrites lets a store settle where its grant is its own limit, and an operator set the limit that there is. In a run
-	// of two quantities the other one's steps are that.
+	// Rewrites lets a store settle where its grant is its own limit, and the limit that there is be set, with what is free
+	// divided anew or as it is. In a run of two quantities the other one's steps are that; so do agents divide a pool, and
+	// operators have a tenant stand still.
 	Rewrites bool
 	// Restores lets etcd be restored.
 	Restores bool

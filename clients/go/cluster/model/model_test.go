@@ -126,6 +126,37 @@ func TestRewrites(t *testing.T) {
 	}
 }
 
+// Nor where what is free is divided anew at any time, as by a store that was hindered: as a limit that is set to what it is.
+func TestDivisions(t *testing.T) {
+	t.Parallel()
+	for _, it := range []struct {
+		limits   []uint64
+		sent     uint8
+		restores bool
+		isLong   bool
+	}{{[]uint64{1, 2}, 1, false, false}, {[]uint64{1, 2}, 2, false, true}, {[]uint64{2, 3}, 1, true, true}} {
+		if it.isLong && os.Getenv("PIBROULEZ_KILLS") == "" {
+			continue
+		}
+		found := searchShards(t, Model{MostSent: it.sent, Rewrites: true, Restores: it.restores}, 2, 2, it.limits...)
+		t.Logf("%+v: %d states, %d steps", it, found.States, found.Steps)
+		divided := 0
+		for _, to := range found.states {
+			if to.step.Kind == SetLimit && to.from > 0 {
+				var before State
+				before.Nodes = make([]Node, 2)
+				found.states[to.from].state(&before)
+				if before.Limit == to.step.To && before.Free != to.step.Shards {
+					divided++
+				}
+			}
+		}
+		if found.Broken != "" || divided == 0 {
+			t.Errorf("%+v: %d divisions, %s", it, divided, found.Broken)
+		}
+	}
+}
+
 // Each variant passes what was granted, on two stores and with limits of 1 and 2.
 func TestWrong(t *testing.T) {
 	for name, it := range map[string]struct {

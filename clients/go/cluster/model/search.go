@@ -119,6 +119,9 @@ func (s *Search) steps(state *State, do func(Step) bool) {
 			return
 		}
 	}
+	if s.Model.Rewrites && !try(Step{Kind: SetLimit, To: state.Limit, Shards: state.Free}) {
+		return
+	}
 	try(Step{Kind: Reopen, Shards: state.Divided(state.Limit, state.grants())})
 }
 
