@@ -156,7 +156,7 @@ func TestTwelveOnTwelveKeys(t *testing.T) {
 func anyCall(s *Snapshotter, random *rand.Rand) error {
 	key, other := fmt.Sprint("k", random.Intn(12)), fmt.Sprint("k", random.Intn(12))
 	var err error
-	switch random.Intn(7) {
+	switch random.Intn(9) {
 	case 0, 1:
 		_, err = s.Prepare(ctx, key, []string{"", "base", other}[random.Intn(3)])
 	case 2:
@@ -169,6 +169,10 @@ func anyCall(s *Snapshotter, random *rand.Rand) error {
 		err = s.Remove(ctx, key)
 	case 6:
 		_, err = s.Stat(ctx, key)
+	case 7:
+		_, err = s.Usage(ctx, key)
+	case 8:
+		writeAny(s, key, random)
 	}
 	return err
 }
