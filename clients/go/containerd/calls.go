@@ -66,13 +66,12 @@ func (s *Snapshotter) Update(ctx context.Context, info snapshots.Info, fieldpath
 // all, what it covers is charged, the rest is told by OverLabel, Scans and the log, and the answer has both. A charge that the
 // log can't keep, as on a full disk, is no error, and is made up for by a later call.
 func (s *Snapshotter) Usage(ctx context.Context, key string) (snapshots.Usage, error) {
-	info, err := s.store.Stat(ctx, s.namespaceOf(key), key)
-	var usage pibroulez.Usage
-	isScanned := err == nil && info.Kind == pibroulez.KindActive
-	if isScanned {
-		usage, err = s.scanned(ctx, info)
+	was, err := s.charged(ctx, key)
+	usage := was.charged
+	if err == nil && was.info.Kind == pibroulez.KindActive {
+		usage, err = s.scanned(ctx, was)
 	}
-	if err == nil && !isScanned || errors.Is(err, errNotActive) {
+	if errors.Is(err, errNotActive) {
 		usage, err = s.store.Usage(ctx, s.namespaceOf(key), key)
 	}
 	if err != nil {

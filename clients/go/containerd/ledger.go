@@ -70,6 +70,7 @@ func (s *Snapshotter) record(ctx context.Context, info pibroulez.Info) error {
 
 // Charges an active snapshot at least so much in all.
 func (s *Snapshotter) chargeFor(ctx context.Context, key string, need pibroulez.Usage) error {
+	s.scans.change()
 	namespace := s.namespaceOf(key)
 	charged, err := s.store.Usage(ctx, namespace, key)
 	if err != nil {
@@ -234,7 +235,7 @@ func (w *writer) ask(items []upper.Item, asked []int, seen []string) error {
 	sent := make([]*pibroulez.Sent, len(asked))
 	for n := 0; n < len(asked)+mostAhead; n++ {
 		if n < len(asked) {
-			line, err := w.line("look", items[asked[n]].Path)
+			line, err := lineOf("look", map[string]any{"ns": w.namespace, "key": w.key, "path": items[asked[n]].Path})
 			if err == nil {
 				sent[n], err = w.store.Send(w.ctx, line)
 			}
@@ -358,10 +359,10 @@ func (w *writer) flush() error {
 	return nil
 }
 
-// The line of a question about a path of the snapshot.
-func (w *writer) line(do, path string) (pibroulez.Line, error) {
-	members := map[string]json.RawMessage{}
-	for name, value := range map[string]string{"ns": w.namespace, "key": w.key, "path": path} {
+// The line of a command.
+func lineOf(do string, fields map[string]any) (pibroulez.Line, error) {
+	members := make(map[string]json.RawMessage, len(fields))
+	for name, value := range fields {
 		text, err := json.Marshal(value)
 		if err != nil {
 			return pibroulez.Line{}, err

@@ -52,6 +52,8 @@ type scans struct {
 	mutex   sync.Mutex
 	ended   *sync.Cond
 	running int
+	// How often a charge may have changed by what this snapshotter does to active snapshots.
+	changes uint64
 	of      map[uint64]*pair
 	over    map[uint64]overOf
 	// What a snapshot was charged after it was trimmed, where that is more than its root.
@@ -71,6 +73,15 @@ type scan struct {
 	done  chan struct{}
 	usage pibroulez.Usage
 	err   error
+	// What was so before.
+	before before
+}
+
+// What the store had of an active snapshot, and how many changes there were before it was asked.
+type before struct {
+	info    pibroulez.Info
+	charged pibroulez.Usage
+	changes uint64
 }
 
 type overOf struct {
@@ -89,25 +100,25 @@ func newScans() *scans {
 
 // The scan of a snapshot that hasn't begun: a new one, or one that others wait for. It is carried out by read, between turns
 // of all scans, and then by use.
-func (s *scans) ask(id uint64, read, use func(*scan)) (*scan, error) {
+func (s *scans) ask(was before, read, use func(*scan)) (*scan, error) {
 	s.mutex.Lock()
 	defer s.mutex.Unlock()
 	if s.ctx.Err() != nil {
 		return nil, pibroulez.ErrClosed
 	}
-	both := s.of[id]
+	both := s.of[was.info.ID]
 	switch {
 	case both == nil:
-		both = &pair{now: &scan{done: make(chan struct{})}}
-		s.of[id] = both
+		both = &pair{now: &scan{done: make(chan struct{}), before: was}}
+		s.of[was.info.ID] = both
 		s.running++
-		go s.run(id, both, read, use)
+		go s.run(was.info.ID, both, read, use)
 		return both.now, nil
 	case !both.now.hasBegun:
 		s.told.Shared++
 		return both.now, nil
 	case both.next == nil:
-		both.next = &scan{done: make(chan struct{})}
+		both.next = &scan{done: make(chan struct{}), before: was}
 	default:
 		s.told.Shared++
 	}
@@ -169,6 +180,19 @@ func (s *scans) wait() {
 	}
 }
 
+// Takes note that charges may change from now on.
+func (s *scans) change() {
+	s.mutex.Lock()
+	defer s.mutex.Unlock()
+	s.changes++
+}
+
+func (s *scans) changed() uint64 {
+	s.mutex.Lock()
+	defer s.mutex.Unlock()
+	return s.changes
+}
+
 // Forgets a snapshot that isn't active any more.
 func (s *scans) forget(id uint64) {
 	s.mutex.Lock()
@@ -219,11 +243,34 @@ func (s *Snapshotter) Scans() Scans {
 // The error of a scan whose snapshot isn't active any more.
 var errNotActive = errors.New("not active any more")
 
+// What the store has of a snapshot and charges for it, asked by two lines at once.
+func (s *Snapshotter) charged(ctx context.Context, key string) (before, error) {
+	was := before{changes: s.scans.changed()}
+	var sent [2]*pibroulez.Sent
+	for n, do := range []string{"stat", "usage"} {
+		line, err := lineOf(do, map[string]any{"ns": s.namespaceOf(key), "key": key, "quiet": true})
+		if err == nil {
+			sent[n], err = s.store.Send(ctx, line)
+		}
+		if err != nil {
+			return was, err
+		}
+	}
+	var info struct{ Info pibroulez.Info }
+	var usage struct{ Usage pibroulez.Usage }
+	err := sent[0].Take(ctx, &info)
+	if err == nil {
+		err = sent[1].Take(ctx, &usage)
+	}
+	was.info, was.charged = info.Info, usage.Usage
+	return was, err
+}
+
 // Reads the directory of an active snapshot, after the call has begun, and charges what it has. What that is, or what is
 // charged where that is more. Any number of callers share one reading.
-func (s *Snapshotter) scanned(ctx context.Context, info pibroulez.Info) (pibroulez.Usage, error) {
+func (s *Snapshotter) scanned(ctx context.Context, was before) (pibroulez.Usage, error) {
 	read := func(it *scan) {
-		it.usage, it.err = upper.Count(s.scans.ctx, s.directories.upperOf(info.ID))
+		it.usage, it.err = upper.Count(s.scans.ctx, s.directories.upperOf(was.info.ID))
 		if errors.Is(it.err, fs.ErrNotExist) {
 			// A full disk has not taken its directory, or it goes.
 			it.usage, it.err = root, nil
@@ -231,13 +278,13 @@ func (s *Snapshotter) scanned(ctx context.Context, info pibroulez.Info) (pibroul
 	}
 	use := func(it *scan) {
 		if it.err == nil {
-			it.usage, it.err = s.settle(s.scans.ctx, info, it.usage)
+			it.usage, it.err = s.settle(s.scans.ctx, it.before, it.usage)
 		}
 		if s.scans.ctx.Err() != nil && it.err != nil {
 			it.err = pibroulez.ErrClosed
 		}
 	}
-	it, err := s.scans.ask(info.ID, read, use)
+	it, err := s.scans.ask(was, read, use)
 	if err != nil {
 		return pibroulez.Usage{}, err
 	}
@@ -251,12 +298,17 @@ func (s *Snapshotter) scanned(ctx context.Context, info pibroulez.Info) (pibroul
 
 // Has an active snapshot charged what was found in its directory, or what it reserves where that is more, as far as its
 // tenant's limit goes, and tells what isn't covered. What is charged or found. What the log can't keep is made up for later.
-func (s *Snapshotter) settle(ctx context.Context, info pibroulez.Info, found pibroulez.Usage) (pibroulez.Usage, error) {
+func (s *Snapshotter) settle(ctx context.Context, was before, found pibroulez.Usage) (pibroulez.Usage, error) {
+	info := was.info
+	if s.isSettled(was, wantedBy(info, found)) {
+		return was.charged, nil
+	}
 	ctx, end, err := s.change(ctx, info.Name)
 	if err != nil {
 		return found, err
 	}
 	defer end()
+	s.scans.change()
 	now, err := s.store.Stat(ctx, s.namespaceOf(info.Name), info.Name)
 	if errors.Is(err, pibroulez.ErrNotFound) || err == nil && (now.ID != info.ID || now.Kind != pibroulez.KindActive) {
 		return found, errNotActive
@@ -264,12 +316,7 @@ func (s *Snapshotter) settle(ctx context.Context, info pibroulez.Info, found pib
 	if err != nil {
 		return found, err
 	}
-	reserve, err := reserveOf(now.Labels)
-	if err != nil {
-		// It is one that was set later, so nothing was charged for it.
-		reserve = pibroulez.Usage{}
-	}
-	wanted := most(most(found, reserve), root)
+	wanted := wantedBy(now, found)
 	charged, err := s.chargeExactly(ctx, now, wanted)
 	if mayBeMade(err) {
 		return found, err
@@ -284,6 +331,25 @@ func (s *Snapshotter) settle(ctx context.Context, info pibroulez.Info, found pib
 		log.G(ctx).WithError(err).WithField("key", info.Name).Warn("failed to charge what a directory has")
 	}
 	return most(wanted, charged), nil
+}
+
+// What an active snapshot is to be charged: what was found, or what it reserves, and its root at least.
+func wantedBy(info pibroulez.Info, found pibroulez.Usage) pibroulez.Usage {
+	reserve, err := reserveOf(info.Labels)
+	if err != nil {
+		// It is one that was set later, so nothing was charged for it.
+		reserve = pibroulez.Usage{}
+	}
+	return most(most(found, reserve), root)
+}
+
+// Whether a snapshot was charged what it is to be, and nothing was over, and no charge has changed since.
+func (s *Snapshotter) isSettled(was before, wanted pibroulez.Usage) bool {
+	s.scans.mutex.Lock()
+	defer s.scans.mutex.Unlock()
+	_, isOver := s.scans.over[was.info.ID]
+	return s.scans.changes == was.changes && was.charged == most(wanted, s.scans.trimmed[was.info.ID]) && was.info.Labels[OverLabel] == "" && !isOver &&
+		!s.scans.failing[was.info.ID]
 }
 
 // Has an active snapshot charged so much as far as the limit goes, and no more. What is charged then.
