@@ -60,9 +60,20 @@ func (s *Snapshotter) Update(ctx context.Context, info snapshots.Info, fieldpath
 	return s.infoOf(updated), nil
 }
 
-// Usage tells what the store charges for a snapshot alone.
+// Usage tells what the store charges for a snapshot alone. Of an active one its directory is read after the call has begun,
+// which costs a status of each of its entries, and what is there is charged, or what it reserves where that is more: also less
+// than before. Calls on one snapshot share a reading, and four are read at one time. Where the tenant's limit doesn't cover
+// all, what it covers is charged, the rest is told by OverLabel, Scans and the log, and the answer has both. A charge that the
+// log can't keep, as on a full disk, is no error, and is made up for by a later call.
 func (s *Snapshotter) Usage(ctx context.Context, key string) (snapshots.Usage, error) {
-	usage, err := s.store.Usage(ctx, s.namespaceOf(key), key)
+	was, err := s.charged(ctx, key)
+	usage := was.charged
+	if err == nil && was.info.Kind == pibroulez.KindActive {
+		usage, err = s.scanned(ctx, was)
+	}
+	if errors.Is(err, errNotActive) {
+		usage, err = s.store.Usage(ctx, s.namespaceOf(key), key)
+	}
 	if err != nil {
 		return snapshots.Usage{}, subject{key: key}.classified(err)
 	}
@@ -207,6 +218,7 @@ func (s *Snapshotter) Commit(ctx context.Context, name, key string, opts ...snap
 		s.unname(ctx, info.ID, key, err)
 		return about.classified(err)
 	}
+	s.scans.forget(info.ID)
 	_, err = s.Stat(ctx, name)
 	return err
 }
@@ -297,6 +309,7 @@ func (s *Snapshotter) drop(ctx context.Context, info pibroulez.Info) error {
 		return err
 	}
 	s.times.drop(info.ID)
+	s.scans.forget(info.ID)
 	s.directories.remove(info.ID)
 	return nil
 }

@@ -175,7 +175,7 @@ func TestTwelveOnTwelveKeys(t *testing.T) {
 func anyCall(s *Snapshotter, random *rand.Rand) error {
 	key, other := fmt.Sprint("k", random.Intn(12)), fmt.Sprint("k", random.Intn(12))
 	var err error
-	switch random.Intn(7) {
+	switch random.Intn(9) {
 	case 0, 1:
 		_, err = s.Prepare(ctx, key, []string{"", "base", other}[random.Intn(3)])
 	case 2:
@@ -188,6 +188,10 @@ func anyCall(s *Snapshotter, random *rand.Rand) error {
 		err = s.Remove(ctx, key)
 	case 6:
 		_, err = s.Stat(ctx, key)
+	case 7:
+		_, err = s.Usage(ctx, key)
+	case 8:
+		writeAny(s, key, random)
 	}
 	return err
 }

@@ -14,6 +14,8 @@ import (
 	"time"
 
 	"github.com/containerd/containerd/snapshots"
+
+	"pibroulez.example/pibroulez/containerd/upper"
 )
 
 // The root of a process of this test that is there to be killed.
@@ -122,10 +124,21 @@ func expectWhole(t *testing.T, s *Snapshotter) int {
 	}
 	granted(t, s.Walk(ctx, func(_ context.Context, info snapshots.Info) error {
 		if info.Kind == snapshots.KindCommitted {
+			expectLedger(t, s, info.Name)
 			return nil
 		}
 		_, err := s.Mounts(ctx, info.Name)
 		return err
 	}))
 	return len(nodes)
+}
+
+// Expects a committed snapshot to be charged what its directory has.
+func expectLedger(t *testing.T, s *Snapshotter, key string) {
+	t.Helper()
+	found, err := upper.Count(ctx, upperOf(t, s, key))
+	granted(t, err)
+	if got := usageOf(t, s, key); got != found {
+		t.Errorf("%s: %v, and %v in its directory", key, got, found)
+	}
 }

@@ -5,6 +5,7 @@ import (
 	"encoding/json"
 	"errors"
 	"fmt"
+	"sort"
 	"strings"
 
 	"pibroulez.example/pibroulez"
@@ -23,7 +24,19 @@ var ErrLedger = errors.New("the ledger is not what the directory has")
 // What an active snapshot is charged from the first: its root.
 var root = pibroulez.Usage{Blocks: 1, Inodes: 1}
 
-// How many file commands are under way at a time.
+// What a batch of file commands has at most. A line of the program has at most 16,777,216 bytes.
+const (
+	mostOperations = 8192
+	mostBatchBytes = 8 << 20
+)
+
+// The most bytes that one of a text becomes in a line, and that an operation has beside its texts.
+const (
+	mostEscape    = 6
+	operationMore = 128
+)
+
+// How many questions are under way at a time.
 const mostAhead = 512
 
 // A whiteout below which no layer has anything: the file system has it, and no file command makes one.
@@ -36,26 +49,17 @@ func (s *Snapshotter) record(ctx context.Context, info pibroulez.Info) error {
 	if err != nil {
 		return err
 	}
-	namespace := s.namespaceOf(info.Name)
 	if it.Count != root {
 		if err := s.chargeFor(ctx, info.Name, it.Count); err != nil {
 			return err
 		}
 	}
-	isNew, err := s.isUnrecorded(ctx, info.Name)
+	changes, err := s.leftOver(ctx, info)
 	if err != nil {
 		return err
 	}
-	w := &writer{ctx: ctx, store: s.store, namespace: namespace, key: info.Name, count: root}
-	switch {
-	case isNew && info.Parent == "":
-		err = w.write(it.Items, func(int) (string, error) { return "", nil })
-	case isNew:
-		err = w.writeOver(it.Items)
-	default:
-		err = w.writeAnew(it.Items)
-	}
-	if err != nil {
+	w := s.writer(ctx, info.Name, changes)
+	if err := w.write(it.Items, info.Parent != "" || w.isLeft); err != nil {
 		return err
 	}
 	if w.count != it.Count {
@@ -66,6 +70,7 @@ func (s *Snapshotter) record(ctx context.Context, info pibroulez.Info) error {
 
 // Charges an active snapshot at least so much in all.
 func (s *Snapshotter) chargeFor(ctx context.Context, key string, need pibroulez.Usage) error {
+	s.scans.change()
 	namespace := s.namespaceOf(key)
 	charged, err := s.store.Usage(ctx, namespace, key)
 	if err != nil {
@@ -113,198 +118,249 @@ func (w *wants) Error() string {
 	return fmt.Sprintf("%s, and snapshot %q wants %d blocks, %d inodes more", words, w.key, w.more.Blocks, w.more.Inodes)
 }
 
-// Whether nothing of a snapshot's directory is in its layer. A commit that came to no end has left something of it. Without a
+// What a commit that came to no end has left in a snapshot's layer: each path, and how it changes what is below. Without a
 // parent the root is itself a change.
-func (s *Snapshotter) isUnrecorded(ctx context.Context, key string) (bool, error) {
-	changes, err := s.store.Diff(ctx, s.namespaceOf(key), key, "/", 1)
-	return len(changes) == 0, err
+func (s *Snapshotter) leftOver(ctx context.Context, info pibroulez.Info) (map[string]string, error) {
+	changes := map[string]string{}
+	err := s.store.DiffAll(ctx, s.namespaceOf(info.Name), info.Name, func(it pibroulez.Change) error {
+		if it.Path != "/" {
+			changes[it.Path] = it.Change
+		}
+		return nil
+	})
+	return changes, err
 }
 
-// A writer makes file commands for what is in a directory. Their answers are waited for later, so that many share the syncs
-// of the log.
+// A writer makes file commands for what is in a directory, and sends them in batches.
 type writer struct {
 	ctx            context.Context
 	store          *pibroulez.Store
 	namespace, key string
-	ahead          []*pending
-	// What the layer takes after the last command that was answered.
+	// How a commit before has changed paths, and whether it has changed any.
+	left   map[string]string
+	isLeft bool
+	// Carries out a batch.
+	batch func([]pibroulez.Operation) (pibroulez.Batched, error)
+	// What isn't sent yet, and how many bytes of a line it takes at most.
+	operations []pibroulez.Operation
+	bytes      int
+	// What the layer takes after the last batch.
 	count pibroulez.Usage
-	err   error
 }
 
-type pending struct {
-	path string
-	sent *pibroulez.Sent
+func (s *Snapshotter) writer(ctx context.Context, key string, left map[string]string) *writer {
+	w := &writer{ctx: ctx, store: s.store, namespace: s.namespaceOf(key), key: key, left: left, isLeft: len(left) > 0, count: root}
+	w.batch = func(operations []pibroulez.Operation) (pibroulez.Batched, error) {
+		return w.store.Batch(ctx, w.namespace, key, pibroulez.Usage{}, operations)
+	}
+	return w
 }
 
-// Writes items over the layers below, after one question for each path.
-func (w *writer) writeOver(items []upper.Item) error {
-	types, err := w.look(items)
-	if err != nil {
-		return err
-	}
-	return w.write(items, func(i int) (string, error) { return types[i], nil })
-}
-
-// Writes items over what a commit before has left of them, each after a question.
-func (w *writer) writeAnew(items []upper.Item) error {
-	removed := map[string]bool{}
-	err := w.store.DiffAll(w.ctx, w.namespace, w.key, func(it pibroulez.Change) error {
-		removed[it.Path] = it.Change == "removed"
-		return nil
-	})
-	if err != nil {
-		return err
-	}
-	seen := func(i int) (string, error) {
-		if err := w.settle(0); err != nil {
-			return "", err
-		}
-		it, err := w.store.Look(w.ctx, w.namespace, w.key, items[i].Path)
-		return string(it.Type), err
-	}
-	for i := range items {
-		if items[i].Kind == upper.Whiteout && removed[items[i].Path] {
-			continue
-		}
-		if err := w.writeOne(&items[i], func() (string, error) { return seen(i) }); err != nil {
+// Has the layer be what the items are. isOverSome says that something may be seen at their paths.
+//
+// All that is in the way goes first, so that the layer takes at no time more than it was left with or has at the end.
+func (w *writer) write(items []upper.Item, isOverSome bool) error {
+	seen := make([]string, len(items))
+	if isOverSome {
+		if err := w.look(items, seen); err != nil {
 			return err
 		}
 	}
-	if err := w.settle(0); err != nil {
+	if err := w.removeStale(items); err != nil {
 		return err
 	}
-	// What the layer takes with what no item has any more.
-	w.count, err = w.store.Trim(w.ctx, w.namespace, w.key)
+	for i := range items {
+		if seen[i] != "" && !w.stays(&items[i], seen[i]) {
+			if err := w.add(pibroulez.WhiteoutOf(items[i].Path)); err != nil {
+				return err
+			}
+		}
+	}
+	for i := range items {
+		if err := w.make(&items[i], seen[i]); err != nil {
+			return err
+		}
+	}
+	if err := w.flush(); err != nil || !w.isLeft {
+		return err
+	}
+	// What the layer takes with what no item has any more, also where there was nothing to do.
+	done, err := w.batch([]pibroulez.Operation{})
+	w.count = done.Count
 	return err
 }
 
-// What is seen at each path in the layers below: the type, or nothing.
-func (w *writer) look(items []upper.Item) ([]string, error) {
-	types, sent := make([]string, len(items)), make([]*pibroulez.Sent, len(items))
-	for i := 0; i < len(items)+mostAhead; i++ {
-		if i < len(items) {
-			line, err := w.line("look", map[string]any{"path": items[i].Path})
-			if err == nil {
-				sent[i], err = w.store.Send(w.ctx, line)
-			}
-			if err != nil {
-				return nil, err
-			}
-		}
-		if last := i - mostAhead; last >= 0 && last < len(items) {
-			var answer struct{ Seen pibroulez.Seen }
-			if err := sent[last].Take(w.ctx, &answer); err != nil {
-				return nil, fmt.Errorf("%s: %w", items[last].Path, err)
-			}
-			types[last] = string(answer.Seen.Type)
-		}
-	}
-	return types, nil
+// Whether what is seen at an item's path isn't to go before the item is made: a directory. An opaque one in which something
+// may be left of the snapshot's own is made anew.
+func (w *writer) stays(it *upper.Item, seen string) bool {
+	return it.Kind == upper.Directory && seen == string(pibroulez.Directory) && !(it.IsOpaque && w.isLeft)
 }
 
-// Writes all items, by what is seen at the path of each in the layers below.
-func (w *writer) write(items []upper.Item, below func(int) (string, error)) error {
-	// The directory within which nothing is seen from below, or empty.
-	hidden := ""
+// Asks what is seen at the path of each item, a type or nothing, before any of them is made. Of what is in a directory in
+// which nothing of that is seen later, nothing is asked, so it goes level by level; what was left there is gone then too.
+func (w *writer) look(items []upper.Item, seen []string) error {
+	var levels [][]int
 	for i := range items {
-		it := &items[i]
-		seen, err := "", error(nil)
-		if hidden == "" || !strings.HasPrefix(it.Path, hidden) {
-			hidden = ""
-			if seen, err = below(i); err != nil {
-				return err
-			}
-			if it.Kind == upper.Directory && (it.IsOpaque || seen != string(pibroulez.Directory)) {
-				hidden = it.Path + "/"
+		level := strings.Count(items[i].Path, "/") - 1
+		for len(levels) <= level {
+			levels = append(levels, nil)
+		}
+		levels[level] = append(levels[level], i)
+	}
+	open := map[string]bool{"": true}
+	for _, level := range levels {
+		var asked []int
+		for _, i := range level {
+			if path := items[i].Path; open[path[:strings.LastIndexByte(path, '/')]] {
+				asked = append(asked, i)
+			} else {
+				delete(w.left, path)
 			}
 		}
-		if err := w.writeOne(it, func() (string, error) { return seen, nil }); err != nil {
+		if err := w.ask(items, asked, seen); err != nil {
+			return err
+		}
+		open = map[string]bool{}
+		for _, i := range asked {
+			if it := &items[i]; w.stays(it, seen[i]) && !it.IsOpaque {
+				open[it.Path] = true
+			}
+		}
+	}
+	return nil
+}
+
+// Asks for these items, many at a time.
+func (w *writer) ask(items []upper.Item, asked []int, seen []string) error {
+	sent := make([]*pibroulez.Sent, len(asked))
+	for n := 0; n < len(asked)+mostAhead; n++ {
+		if n < len(asked) {
+			line, err := lineOf("look", map[string]any{"ns": w.namespace, "key": w.key, "path": items[asked[n]].Path})
+			if err == nil {
+				sent[n], err = w.store.Send(w.ctx, line)
+			}
+			if err != nil {
+				return err
+			}
+		}
+		if last := n - mostAhead; last >= 0 && last < len(asked) {
+			var answer struct{ Seen pibroulez.Seen }
+			if err := sent[last].Take(w.ctx, &answer); err != nil {
+				return fmt.Errorf("%s: %w", items[asked[last]].Path, err)
+			}
+			seen[asked[last]], sent[last] = string(answer.Seen.Type), nil
+		}
+	}
+	return nil
+}
+
+// Takes away what was left and the directory doesn't have any more. What is in something that goes, goes with it.
+func (w *writer) removeStale(items []upper.Item) error {
+	if !w.isLeft {
+		return nil
+	}
+	isThere := map[string]bool{}
+	for i := range items {
+		isThere[items[i].Path] = true
+	}
+	paths := make([]string, 0, len(w.left))
+	for path, change := range w.left {
+		if !isThere[path] && change != "removed" {
+			paths = append(paths, path)
+		}
+	}
+	// A directory before what is in it.
+	sort.Strings(paths)
+	stale := map[string]bool{}
+	for _, path := range paths {
+		if stale[path] = true; isBelow(path, stale) {
+			continue
+		}
+		if err := w.add(pibroulez.WhiteoutOf(path)); err != nil {
 			return err
 		}
 	}
-	return w.settle(0)
+	return nil
 }
 
-// Writes one item, by what is seen at its path.
-func (w *writer) writeOne(it *upper.Item, look func() (string, error)) error {
-	seen, err := look()
-	if err != nil {
-		return err
+// Whether one of the directories above a path is among these.
+func isBelow(path string, these map[string]bool) bool {
+	for at := strings.LastIndexByte(path, '/'); at > 0; at = strings.LastIndexByte(path[:at], '/') {
+		if these[path[:at]] {
+			return true
+		}
 	}
-	isDirectory := seen == string(pibroulez.Directory)
-	if seen != "" && !(it.Kind == upper.Directory && isDirectory) {
-		w.send("whiteout", it.Path, nil)
-	}
+	return false
+}
+
+// Makes an item, where what was in its way is gone. seen is what was there.
+func (w *writer) make(it *upper.Item, seen string) error {
 	switch it.Kind {
 	case upper.Directory:
-		if !isDirectory {
-			w.send("mkdir", it.Path, map[string]any{"mode": it.Mode})
-			break
+		if !w.stays(it, seen) {
+			return w.add(pibroulez.MkdirOf(it.Path, it.Mode))
 		}
-		w.send("setmode", it.Path, map[string]any{"mode": it.Mode})
-		if it.IsOpaque {
-			w.send("opaque", it.Path, nil)
+		err := w.add(pibroulez.SetmodeOf(it.Path, it.Mode))
+		if err == nil && it.IsOpaque {
+			err = w.add(pibroulez.OpaqueOf(it.Path))
 		}
+		return err
 	case upper.File:
-		w.send("put", it.Path, map[string]any{"mode": it.Mode, "size": it.Size})
+		return w.add(pibroulez.PutOf(it.Path, it.Mode, it.Size, ""))
 	case upper.Symlink:
-		w.send("symlink", it.Path, map[string]any{"target": it.Text})
+		return w.add(pibroulez.SymlinkOf(it.Path, it.Text))
 	case upper.Special:
-		w.send("put", it.Path, map[string]any{"mode": it.Mode, "size": 0, "digest": it.Text})
+		return w.add(pibroulez.PutOf(it.Path, it.Mode, 0, it.Text))
 	case upper.Whiteout:
-		if seen == "" {
-			w.send("put", it.Path, map[string]any{"mode": 0, "size": 0, "digest": loneWhiteout})
+		// Where something was below, the whiteout is made by now.
+		if change := w.left[it.Path]; seen == "" && change != "removed" || change == "added" {
+			return w.add(pibroulez.PutOf(it.Path, 0, 0, loneWhiteout))
 		}
 	case upper.Link:
-		w.send("link", "", map[string]any{"from": it.Text, "to": it.Path})
+		return w.add(pibroulez.LinkOf(it.Text, it.Path))
 	}
-	return w.err
+	return nil
 }
 
-// Sends a file command. Commands in one line, where the store has them, would be put together here and in settle.
-func (w *writer) send(do, path string, fields map[string]any) {
-	if w.err != nil {
-		return
-	}
-	given := map[string]any{}
-	for name, value := range fields {
-		given[name] = value
-	}
-	if path != "" {
-		given["path"] = path
-	} else {
-		path = fmt.Sprint(given["to"])
-	}
-	line, err := w.line(do, given)
-	if err == nil {
-		var sent *pibroulez.Sent
-		if sent, err = w.store.Send(w.ctx, line); err == nil {
-			w.ahead = append(w.ahead, &pending{path, sent})
-			w.settle(mostAhead)
-			return
+// Has an operation sent with the next batch.
+func (w *writer) add(it pibroulez.Operation) error {
+	bytes := operationMore
+	for _, value := range it.Fields {
+		if text, isText := value.(string); isText {
+			bytes += mostEscape * len(text)
 		}
 	}
-	w.err = fmt.Errorf("%s: %w", path, err)
-}
-
-// Waits until at most so many commands are under way. The error is that of the first command that failed, with its path.
-func (w *writer) settle(most int) error {
-	for len(w.ahead) > most {
-		it := w.ahead[0]
-		w.ahead = w.ahead[1:]
-		var changed pibroulez.Changed
-		if err := it.sent.Take(w.ctx, &changed); err != nil && w.err == nil {
-			w.err = fmt.Errorf("%s: %w", it.path, err)
+	if len(w.operations) == mostOperations || w.bytes+bytes > mostBatchBytes {
+		if err := w.flush(); err != nil {
+			return err
 		}
-		w.count = changed.Count
 	}
-	return w.err
+	w.operations, w.bytes = append(w.operations, it), w.bytes+bytes
+	return nil
 }
 
-// The line of a command on the snapshot.
-func (w *writer) line(do string, fields map[string]any) (pibroulez.Line, error) {
-	fields["ns"], fields["key"] = w.namespace, w.key
+// Sends what isn't sent yet, and waits for the answer. The error names the path whose operation was refused.
+func (w *writer) flush() error {
+	if len(w.operations) == 0 {
+		return nil
+	}
+	done, err := w.batch(w.operations)
+	if refused := new(pibroulez.OperationRefused); errors.As(err, &refused) {
+		given := w.operations[refused.Number-1].Fields
+		path, isPath := given["path"]
+		if !isPath {
+			path = given["to"]
+		}
+		return fmt.Errorf("%s: %w", path, refused.Why)
+	} else if err != nil {
+		return err
+	}
+	w.count, w.operations, w.bytes = done.Count, w.operations[:0], 0
+	return nil
+}
+
+// The line of a command.
+func lineOf(do string, fields map[string]any) (pibroulez.Line, error) {
 	members := make(map[string]json.RawMessage, len(fields))
 	for name, value := range fields {
 		text, err := json.Marshal(value)

@@ -1,6 +1,8 @@
 package containerd
 
 import (
+	"bytes"
+	"encoding/json"
 	"errors"
 	"fmt"
 	"io/fs"
@@ -277,68 +279,228 @@ func TestCommitOverLimit(t *testing.T) {
 	}
 }
 
-// What a commit that came to no end has left of a directory is made right by the next one, whatever has changed meanwhile.
+// Has a commit come to no end after so many operations, in batches of two.
+func commitInPart(t *testing.T, s *Snapshotter, key string, most int) (done int) {
+	t.Helper()
+	info, err := s.store.Stat(ctx, s.namespaceOf(key), key)
+	granted(t, err)
+	found, err := upper.Read(s.directories.upperOf(info.ID))
+	granted(t, err)
+	granted(t, s.chargeFor(ctx, key, found.Count))
+	left, err := s.leftOver(ctx, info)
+	granted(t, err)
+	w := s.writer(ctx, key, left)
+	var all []pibroulez.Operation
+	w.batch = func(operations []pibroulez.Operation) (pibroulez.Batched, error) {
+		all = append(all, operations...)
+		return pibroulez.Batched{}, nil
+	}
+	granted(t, w.write(found.Items, true))
+	for _, it := range all {
+		if done == most {
+			break
+		}
+		_, err := s.store.Batch(ctx, s.namespaceOf(key), key, pibroulez.Usage{}, []pibroulez.Operation{it})
+		granted(t, err)
+		done++
+	}
+	return done
+}
+
+// What a commit that came to no end has left of a directory is made right by the next one, whatever has changed meanwhile:
+// after each of its operations, also where the next one comes to no end either.
 func TestCommitAfterPart(t *testing.T) {
 	requiresRoot(t)
-	s := newSnapshotter(t, t.TempDir())
+	s := newSnapshotter(t, rootInMemory(t))
 	committed(t, s, "base", "", func(root string) { makeAll(t, root) })
-	for part := 0; part <= 10; part++ {
-		key, name := fmt.Sprint("k", part), fmt.Sprint("n", part)
-		mounts, err := s.Prepare(ctx, key, "base")
-		granted(t, err)
-		inMount(t, mounts, func(root string) {
-			granted(t, os.RemoveAll(filepath.Join(root, "gone")))
-			granted(t, os.Remove(filepath.Join(root, "d/e/page")))
-			granted(t, os.Chmod(filepath.Join(root, "d/one"), 0o600))
-			granted(t, os.Mkdir(filepath.Join(root, "made"), 0o700))
-			granted(t, os.WriteFile(filepath.Join(root, "made/x"), make([]byte, 5000), 0o600))
-			granted(t, os.Link(filepath.Join(root, "made/x"), filepath.Join(root, "made/y")))
-		})
-		info, err := s.store.Stat(ctx, Namespace, key)
-		granted(t, err)
-		found, err := upper.Read(s.directories.upperOf(info.ID))
-		granted(t, err)
-		granted(t, s.chargeFor(ctx, key, found.Count))
-		w := &writer{ctx: ctx, store: s.store, namespace: Namespace, key: key}
-		if part < len(found.Items) {
-			found.Items = found.Items[:part]
-		}
-		granted(t, w.writeOver(found.Items))
-		if part%2 == 1 {
-			inMount(t, mounts, func(root string) {
-				granted(t, os.WriteFile(filepath.Join(root, "made/x"), nil, 0o600))
-				granted(t, os.WriteFile(filepath.Join(root, "gone"), nil, 0o600))
-				granted(t, os.WriteFile(filepath.Join(root, "null2"), nil, 0o600))
-			})
-		}
-		granted(t, s.Commit(ctx, name, key))
-		view, err := s.View(ctx, "view", name)
-		granted(t, err)
-		inMount(t, view, func(root string) {
-			want, got := shown(t, root), modelled(t, s, name)
-			for _, it := range []map[string]string{want, got} {
-				for path := range it {
-					if strings.HasPrefix(path, "/d/%") || strings.HasPrefix(path, "/d/\xff") {
-						delete(it, path)
-					}
-				}
+	at := filepath.Join
+	first := func(root string) {
+		granted(t, os.RemoveAll(at(root, "gone")))
+		granted(t, os.Remove(at(root, "d/e/page")))
+		granted(t, os.Chmod(at(root, "d/one"), 0o600))
+		granted(t, os.Mkdir(at(root, "made"), 0o700))
+		granted(t, os.WriteFile(at(root, "made/x"), make([]byte, 5000), 0o600))
+		granted(t, os.Link(at(root, "made/x"), at(root, "made/y")))
+		granted(t, os.RemoveAll(at(root, "d/e/f")))
+		granted(t, os.Mkdir(at(root, "d/e/f"), 0o700))
+		granted(t, os.WriteFile(at(root, "d/e/f/own"), make([]byte, 1<<20), 0o600))
+	}
+	then := []func(root string){
+		func(string) {},
+		func(root string) {
+			granted(t, os.WriteFile(at(root, "made/x"), nil, 0o600))
+			granted(t, os.WriteFile(at(root, "gone"), nil, 0o600))
+			granted(t, os.WriteFile(at(root, "null2"), nil, 0o600))
+		},
+		// What the first one may have recorded isn't there any more.
+		func(root string) {
+			granted(t, os.RemoveAll(at(root, "made")))
+			granted(t, os.Remove(at(root, "d/e/f/own")))
+			granted(t, os.Mkdir(at(root, "gone"), 0o700))
+			granted(t, os.Remove(at(root, "d/one")))
+		},
+		// A directory of which a part was recorded goes as a whole, and comes back as another thing.
+		func(root string) {
+			granted(t, os.RemoveAll(at(root, "d")))
+			granted(t, os.WriteFile(at(root, "d"), []byte("a file"), 0o600))
+			granted(t, os.Remove(at(root, "made/x")))
+			granted(t, os.Mkdir(at(root, "made/x"), 0o700))
+		},
+		func(root string) {
+			granted(t, os.RemoveAll(at(root, "d")))
+			granted(t, os.MkdirAll(at(root, "d/e/f"), 0o700))
+			granted(t, os.RemoveAll(at(root, "made")))
+			granted(t, os.WriteFile(at(root, "made"), nil, 0o600))
+		},
+	}
+	number := 0
+	for change := range then {
+		for part := 0; ; part++ {
+			number++
+			key, name := fmt.Sprint("k", number), fmt.Sprint("n", number)
+			mounts, err := s.Prepare(ctx, key, "base")
+			granted(t, err)
+			inMount(t, mounts, first)
+			done := commitInPart(t, s, key, part)
+			inMount(t, mounts, then[change])
+			if part%3 == 2 {
+				commitInPart(t, s, key, part/2)
 			}
-			sameTrees(t, got, want)
-		})
-		granted(t, s.Remove(ctx, "view"))
+			granted(t, s.Commit(ctx, name, key))
+			expectShown(t, s, name)
+			granted(t, s.Remove(ctx, name))
+			if done < part {
+				break
+			}
+		}
+	}
+	if number < 60 {
+		t.Errorf("%d commits", number)
 	}
 }
 
-// A directory of which a file is gone that a commit before has recorded can't be committed, and the error says what differs.
-func TestLedgerMismatch(t *testing.T) {
+// Expects the store to have what the kernel shows of a committed snapshot, but for names that are no UTF-8.
+func expectShown(t *testing.T, s *Snapshotter, name string) {
+	t.Helper()
+	mounts, err := s.View(ctx, "view", name)
+	granted(t, err)
+	inMount(t, mounts, func(root string) {
+		want, got := shown(t, root), modelled(t, s, name)
+		for _, it := range []map[string]string{want, got} {
+			for path := range it {
+				if strings.HasPrefix(path, "/d/%") || strings.HasPrefix(path, "/d/\xff") {
+					delete(it, path)
+				}
+			}
+		}
+		sameTrees(t, got, want)
+	})
+	granted(t, s.Remove(ctx, "view"))
+}
+
+// A whiteout that a commit before has left below nothing is made anew.
+func TestLoneWhiteoutsAfterPart(t *testing.T) {
+	requiresRoot(t)
 	s := newSnapshotter(t, t.TempDir())
 	_, err := s.Prepare(ctx, "k", "")
 	granted(t, err)
+	granted(t, unix.Mknod(filepath.Join(upperOf(t, s, "k"), "w"), unix.S_IFCHR, 0))
+	commitInPart(t, s, "k", 1)
+	granted(t, s.Commit(ctx, "base", "k"))
+	if got := usageOf(t, s, "base"); got != (pibroulez.Usage{Blocks: 1, Inodes: 2}) {
+		t.Errorf("%v", got)
+	}
+}
+
+// A layer that a commit before has left takes no more on the way to another one than the greater of both.
+func TestCommitAfterPartAtTheLimit(t *testing.T) {
+	root := t.TempDir()
+	s, err := New(ctx, Config{Program: program(), Root: root, Tenants: map[string]pibroulez.Usage{"a": {Blocks: 11, Inodes: 11}}})
+	granted(t, err)
+	defer s.Close()
+	_, err = s.Prepare(ctx, "a/1/k", "")
+	granted(t, err)
+	path := upperOf(t, s, "a/1/k")
+	granted(t, os.WriteFile(filepath.Join(path, "z"), make([]byte, 10*4096), 0o600))
+	commitInPart(t, s, "a/1/k", 1)
+	granted(t, os.Remove(filepath.Join(path, "z")))
+	for n := 0; n < 10; n++ {
+		granted(t, os.WriteFile(filepath.Join(path, fmt.Sprint("f", n)), make([]byte, 4096), 0o600))
+	}
+	granted(t, s.Commit(ctx, "a/2/base", "a/1/k"))
+	if got := usageOf(t, s, "a/2/base"); got != (pibroulez.Usage{Blocks: 11, Inodes: 11}) {
+		t.Errorf("%v", got)
+	}
+}
+
+// A layer of many files is a few batches, each with a line below the program's bound, and all in order.
+func TestManyFilesInFewBatches(t *testing.T) {
+	items, most := []upper.Item{}, strings.Repeat("\x01", 255)
+	for n := 0; n < 20_000; n++ {
+		items = append(items, upper.Item{Kind: upper.File, Path: fmt.Sprint("/f", n), Mode: 0o600})
+	}
+	for n := 0; n < 300; n++ {
+		items = append(items, upper.Item{Kind: upper.Symlink, Path: fmt.Sprint(strings.Repeat("/"+most, 15), n), Text: strings.Repeat(most, 16)})
+	}
+	batches, next := 0, 0
+	w := (&Snapshotter{}).writer(ctx, "k", nil)
+	w.batch = func(operations []pibroulez.Operation) (pibroulez.Batched, error) {
+		batches++
+		for _, it := range operations {
+			if it.Fields["path"] != items[next].Path {
+				t.Fatalf("operation %d is %v", next, it)
+			}
+			next++
+		}
+		line, err := json.Marshal(operations)
+		granted(t, err)
+		if len(line) > 16<<20-1<<17 {
+			t.Errorf("a line of %d bytes", len(line))
+		}
+		return pibroulez.Batched{}, nil
+	}
+	granted(t, w.write(items, false))
+	if next != len(items) || batches > 8 {
+		t.Errorf("%d of %d operations, %d batches", next, len(items), batches)
+	}
+}
+
+// A commit of many files is a few lines of the log.
+func TestManyFilesInFewLines(t *testing.T) {
+	root := rootInMemory(t)
+	s := newSnapshotter(t, root)
+	_, err := s.Prepare(ctx, "k", "")
+	granted(t, err)
+	for n := 0; n < 500; n++ {
+		granted(t, os.WriteFile(filepath.Join(upperOf(t, s, "k"), fmt.Sprint("f", n)), nil, 0o600))
+	}
+	lines := func() int {
+		text, err := os.ReadFile(filepath.Join(root, LogFile))
+		granted(t, err)
+		return bytes.Count(text, []byte("\n"))
+	}
+	before := lines()
+	granted(t, s.Commit(ctx, "base", "k"))
+	if got := usageOf(t, s, "base"); got != (pibroulez.Usage{Blocks: 1, Inodes: 501}) {
+		t.Errorf("%v", got)
+	}
+	if more := lines() - before; more != 3 {
+		t.Errorf("%d lines: a charge, a batch and a commit", more)
+	}
+}
+
+// Where the layer has something that the directory doesn't show, nothing is committed, and the error says what differs.
+func TestLedgerMismatch(t *testing.T) {
+	requiresRoot(t)
+	s := newSnapshotter(t, t.TempDir())
+	committed(t, s, "base", "", func(root string) { granted(t, os.WriteFile(filepath.Join(root, "f"), nil, 0o600)) })
+	_, err := s.Prepare(ctx, "k", "base")
+	granted(t, err)
 	info, err := s.store.Stat(ctx, Namespace, "k")
 	granted(t, err)
-	_, err = s.store.Create(ctx, Namespace, "k", "/gone")
+	_, err = s.store.Whiteout(ctx, Namespace, "k", "/f")
 	granted(t, err)
-	err = s.Commit(ctx, "base", "k")
+	err = s.Commit(ctx, "next", "k")
 	if !errors.Is(err, ErrLedger) || !errdefs.IsFailedPrecondition(err) || !strings.Contains(err.Error(), `"k" has 1/2 there, and 1/1 in its directory`) {
 		t.Errorf("%v", err)
 	}

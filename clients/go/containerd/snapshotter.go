@@ -67,8 +67,10 @@ type Snapshotter struct {
 	locks       locks
 	// What overlay mounts need beside the store's options.
 	options []string
-	// Makes a call that charges.
-	charge func(ctx context.Context, namespace string, more pibroulez.Usage, call func(context.Context) error) error
+	// Makes a call that charges, and whether that first asks others.
+	charge     func(ctx context.Context, namespace string, more pibroulez.Usage, call func(context.Context) error) error
+	hasCluster bool
+	scans      *scans
 	// Calls that change something read, and Close writes.
 	running sync.RWMutex
 }
@@ -106,6 +108,8 @@ func New(ctx context.Context, config Config) (*Snapshotter, error) {
 		locks:       locks{held: map[string]*lock{}},
 		options:     overlayOptions(root),
 		charge:      config.Charge,
+		hasCluster:  config.Charge != nil,
+		scans:       newScans(),
 	}
 	if s.charge == nil {
 		s.charge = func(ctx context.Context, _ string, _ pibroulez.Usage, call func(context.Context) error) error {
@@ -255,6 +259,9 @@ func (s *Snapshotter) begin(ctx context.Context, config Config, root string, age
 		ids[node.ID] = true
 	}
 	s.times = openTimes(filepath.Join(root, "times"), ids)
+	if err := s.findOver(ctx); err != nil {
+		return err
+	}
 	return s.clean(ctx)
 }
 
@@ -282,12 +289,14 @@ func (s *Snapshotter) Err() error { return s.store.Err() }
 // How long Close waits for the calls that run, before it ends the process below them.
 const patience = 10 * time.Second
 
-// Close ends the store's process, once the calls that run have ended, and waits for the removals of directories. The
+// Close ends the store's process, once the calls that run have ended and scans have been given up, and waits for the removals of directories. The
 // snapshots stay. A process that answers nothing is killed after a while, as pibroulez.Store.Close says. A store that
 // others use too isn't ended; close it before where calls may wait for it.
 func (s *Snapshotter) Close() error {
+	s.scans.end()
 	alone := make(chan struct{})
 	go func() {
+		s.scans.wait()
 		s.running.Lock()
 		close(alone)
 	}()

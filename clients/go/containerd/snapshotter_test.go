@@ -233,16 +233,21 @@ func TestRemoveAndPages(t *testing.T) {
 	}
 }
 
-// A root alone is a block and an inode, and what the kernel writes into the directory is counted at the commit.
+// A root alone is a block and an inode, and what the kernel writes into the directory is counted when that is asked for.
 func TestUsage(t *testing.T) {
 	root := t.TempDir()
 	s := newSnapshotter(t, root)
 	_, err := s.Prepare(ctx, "k", "")
 	granted(t, err)
-	granted(t, os.WriteFile(filepath.Join(root, "snapshots", "1", "fs", "file"), make([]byte, 10_000), 0o600))
 	usage, err := s.Usage(ctx, "k")
 	granted(t, err)
 	if usage != (snapshots.Usage{Inodes: 1, Size: 4096}) {
+		t.Errorf("%v", usage)
+	}
+	granted(t, os.WriteFile(filepath.Join(root, "snapshots", "1", "fs", "file"), make([]byte, 10_000), 0o600))
+	usage, err = s.Usage(ctx, "k")
+	granted(t, err)
+	if usage != (snapshots.Usage{Inodes: 2, Size: 4096 + 3*4096}) {
 		t.Errorf("%v", usage)
 	}
 	granted(t, s.Commit(ctx, "base", "k"))

@@ -139,3 +139,38 @@ func TestOtherDirectories(t *testing.T) {
 	p.configure(t, fmt.Sprintf("log = %q\n", p.path("other"))+p.containerd())
 	isError(t, serve(ctx, quiet(), p.path("pibroulezd.toml"), nil), containerd.ErrMismatch)
 }
+
+// A container that has more than its tenant's limit covers is told by its label, and by metrics until it has less.
+func TestOverLimit(t *testing.T) {
+	p := newPlace(t)
+	watched := fmt.Sprintf("[watch]\naddress = %q\n", "unix:"+p.path("watch"))
+	p.configure(t, p.containerd()+watched+"[tenants.a]\nblocks = 3\ninodes = 3\ncontainerd = true\n")
+	it := p.start(t)
+	called := namespaces.WithNamespace(ctx, "test")
+	s := p.snapshotter(t)
+	mounts, err := s.Prepare(called, "a/1/k", "")
+	granted(t, err)
+	ask := func(blocks int, label string, wants ...string) {
+		t.Helper()
+		granted(t, os.WriteFile(filepath.Join(mounts[0].Source, "f"), make([]byte, blocks*4096), 0o600))
+		usage, err := s.Usage(called, "a/1/k")
+		granted(t, err)
+		equal(t, usage, snapshots.Usage{Size: int64(1+blocks) * 4096, Inodes: 2})
+		info, err := s.Stat(called, "a/1/k")
+		granted(t, err)
+		equal(t, info.Labels[containerd.OverLabel], label)
+		metrics := p.get(t, "/metrics")
+		for _, want := range wants {
+			if !strings.Contains(metrics, want+"\n") {
+				t.Errorf("no %s in %s", want, metrics)
+			}
+		}
+		equal(t, strings.Contains(metrics, "pibroulez_over{"), label != "")
+	}
+	ask(7, "5/0", `pibroulez_over{quantity="blocks",tenant="a"} 5`, `pibroulez_snapshots_over{tenant="a"} 1`, `pibroulez_tenant_free{quantity="blocks",tenant="a"} 0`)
+	if err := s.Commit(called, "a/2/base", "a/1/k"); !errdefs.IsUnavailable(err) {
+		t.Error(err)
+	}
+	ask(1, "", "pibroulez_scans_total 2", `pibroulez_tenant_charged{quantity="blocks",tenant="a"} 2`)
+	it.end(t)
+}

@@ -40,7 +40,7 @@ func (d *daemon) openDoors(ctx context.Context) error {
 	}
 	if c.Watch != nil {
 		// It counts what the others do.
-		d.watch = watch.New(watch.Config{Store: d.store, Counts: d.counts, Metrics: d.node.metrics()})
+		d.watch = watch.New(watch.Config{Store: d.store, Counts: d.counts, Metrics: append(d.node.metrics(), &scanMetrics{d.scans})})
 	}
 	if c.Containerd != nil {
 		if err := d.openContainerd(ctx, c); err != nil {
@@ -80,6 +80,14 @@ func (d *daemon) counts() door.Counts {
 		return door.Counts{}
 	}
 	return d.lines.Counts()
+}
+
+// What the door for containerd has read of directories. Without it all is 0.
+func (d *daemon) scans() containerd.Scans {
+	if d.snapshotter == nil {
+		return containerd.Scans{}
+	}
+	return d.snapshotter.Scans()
 }
 
 // Takes note of how long a line took, where somebody watches.

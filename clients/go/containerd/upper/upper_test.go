@@ -1,6 +1,7 @@
 package upper
 
 import (
+	"context"
 	"errors"
 	"os"
 	"path/filepath"
@@ -91,5 +92,42 @@ func TestHeld(t *testing.T) {
 	}
 	if it.Items[1].Kind != Link || it.Items[1].Text != "/a" || it.Items[3].Kind != Whiteout || it.Items[3].Held.Inodes != 0 {
 		t.Errorf("%+v", it.Items)
+	}
+}
+
+// Count counts as Read does, whatever is there.
+func TestCount(t *testing.T) {
+	if os.Getuid() != 0 {
+		t.Skip("only root makes a whiteout")
+	}
+	root := t.TempDir()
+	at := func(path string) string { return filepath.Join(root, path) }
+	granted(t, os.MkdirAll(at("d/e"), 0o700))
+	for n := 0; n < 3*namesAtOnce; n++ {
+		granted(t, os.WriteFile(at("d/"+strings.Repeat("x", 1+n%100)+string(rune('a'+n/100))), make([]byte, n), 0o600))
+	}
+	granted(t, os.Link(at("d/xa"), at("d/e/link")))
+	granted(t, os.Symlink("there", at("s")))
+	granted(t, os.Link(at("s"), at("d/s")))
+	granted(t, unix.Mknod(at("c"), unix.S_IFCHR, int(unix.Mkdev(1, 3))))
+	granted(t, os.Link(at("c"), at("d/c")))
+	granted(t, unix.Mknod(at("w"), unix.S_IFCHR, 0))
+	granted(t, os.Link(at("w"), at("d/w")))
+	granted(t, unix.Mkfifo(at("p"), 0o600))
+	granted(t, os.WriteFile(at("\xff"), make([]byte, 4097), 0o600))
+	read, err := Read(root)
+	granted(t, err)
+	count, err := Count(context.Background(), root)
+	granted(t, err)
+	if count != read.Count || count.Inodes < 3000 {
+		t.Errorf("%v, not %v", count, read.Count)
+	}
+	ended, cancel := context.WithCancel(context.Background())
+	cancel()
+	if _, err := Count(ended, root); !errors.Is(err, context.Canceled) {
+		t.Error(err)
+	}
+	if _, err := Count(context.Background(), at("s")); !errors.Is(err, syscall.ENOTDIR) && !errors.Is(err, syscall.ELOOP) {
+		t.Error(err)
 	}
 }
