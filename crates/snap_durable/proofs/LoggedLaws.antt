@@ -15,11 +15,11 @@ use Rattle.snap_durable.specs.Served.{Done, IsReplayed, text_limit}
 use Rattle.snap_durable.proofs.PartLaws.{leaves_none}
 use Rattle.snap_durable.proofs.RestartLaws.{Adds, Begins, Passes, gives_back, gives_sound, joined}
 use Rattle.snap_durable.proofs.LeadLaws.{Leads, leads_of}
-use Rattle.snap_session.specs.Kept.{KeptPart, KeptValue, counted_anew, has_store, idle_kept, kept_so, mark_of, part_of, served_kept, would_change}
+use Rattle.snap_session.specs.Kept.{KeptPart, KeptValue, counted_anew, has_store, idle_kept, kept_so, mark_of, kept_part, served_kept, would_change}
 use Rattle.snap_lines.proofs.LineLaws.{feed_ended}
 use Rattle.snap_marks.specs.declared.sums.Sums.{Sums}
-use Rattle.snap_marks.specs.Marks.{chained_lines, is_mark, stem, tail, tail_rebased}
-use Rattle.snap_marks.specs.Sums.{is_whole, marked, no_sums, rebased_mark, summed}
+use Rattle.snap_marks.specs.Marks.{chained_lines, is_mark_line, stem, tail, tail_rebased}
+use Rattle.snap_marks.specs.Sums.{marks_agree, mark_compared, no_sums, rebased_mark, summed}
 use Rattle.snap_marks.specs.declared.sums.Difference.{Difference}
 use Rattle.snap_marks.proofs.MarkLaws.{IsOneLine, chained_more, is_mark_text, length_mark, marked_answers, marked_lines, marked_told, open_mark, whole_mark, whole_rebased}
 use Rattle.std.proofs.lemmas.List.{append_cancel_right, take_all}
@@ -36,10 +36,10 @@ unfolding line_read
 text_left lines answers end one v =
     let m : List ℕ = stem lines answers ++ end in
     let read : line_read (m ++ 10 ∷ []) ≡ take line_limit m = ap (take line_limit) (feed_ended m (open_mark lines answers end one)) in
-    mark_changes v (line_read (m ++ 10 ∷ [])) (ap is_mark read ∙ is_mark_text line_limit lines answers end (omega arith))
+    mark_changes v (line_read (m ++ 10 ∷ [])) (ap is_mark_line read ∙ is_mark_text line_limit lines answers end (omega arith))
 
 -- of a server a log keeps the script, and the sums of lines and answers
-pub keeps_part : KeepsPart served_kept would_change mark_of kept_so has_store part_of
+pub keeps_part : KeepsPart served_kept would_change mark_of kept_so has_store kept_part
 keeps_part = record {
   served = λ v line. ok_is (served_kept v line) (always_served v line);
   same = so_left;
@@ -57,18 +57,18 @@ keeps_part = record {
 }
 
 -- what a log begins with changes nothing
-start_begins : (rebases : Bool) (s : Sums) (start : List ℕ) → Starts rebases s start → Begins served_kept would_change mark_of kept_so has_store part_of keeps_part start
+start_begins : (rebases : Bool) (s : Sums) (start : List ℕ) → Starts rebases s start → Begins served_kept would_change mark_of kept_so has_store kept_part keeps_part start
 start_begins rebases s start (inl (is, none)) = inl none
 start_begins rebases s start (inr (is, wants, mark)) = inr (rebased_mark s, mark, open_mark s.lines s.answers tail_rebased refl, text_left s.lines s.answers tail_rebased refl)
 
 -- ---- the marks of a log that was served agree
 
-change_same : (v w : KeptValue) (line : List ℕ) → part_of v ≡ part_of w → would_change v line ≡ would_change w line
+change_same : (v w : KeptValue) (line : List ℕ) → kept_part v ≡ kept_part w → would_change v line ≡ would_change w line
 change_same v w line same = change_alike v w line (ap (λ (k : KeptPart). k.script) same)
 
 -- the marks agree, up to the last line
 record IsSound (u : KeptValue) : Type 0 where
-  whole : is_whole u.sums ≡ true
+  whole : marks_agree u.sums ≡ true
   told : u.sums.told ≡ u.sums.answers
   steady : IsSteady u.sums
 
@@ -87,10 +87,10 @@ record AreSummed (u x : KeptValue) (lines : List ℕ) : Type 0 where
   differs : x.sums.differs ≡ u.sums.differs
   steady : IsSteady x.sums
 
-adds_sums : (rs : List (List ℕ)) (u x : KeptValue) → kept_so true u ≡ u → IsSteady u.sums → Adds served_kept would_change mark_of kept_so has_store part_of keeps_part u rs x → AreSummed u x (joined served_kept would_change mark_of kept_so has_store part_of keeps_part rs)
+adds_sums : (rs : List (List ℕ)) (u x : KeptValue) → kept_so true u ≡ u → IsSteady u.sums → Adds served_kept would_change mark_of kept_so has_store kept_part keeps_part u rs x → AreSummed u x (joined served_kept would_change mark_of kept_so has_store kept_part keeps_part rs)
 adds_sums [] u x also steady adds = subst (λ (y : KeptValue). AreSummed u y []) adds (record { sum = refl; told = refl; differs = refl; steady = steady })
 adds_sums (r ∷ rs) u x also steady (e, one, change, p, more) =
-    let J : List ℕ = joined served_kept would_change mark_of kept_so has_store part_of keeps_part rs in
+    let J : List ℕ = joined served_kept would_change mark_of kept_so has_store kept_part keeps_part rs in
     let sums : e.value.sums ≡ summed u.sums r e.text = added_sums u r e (keeps_on u also) change p in
     let next : kept_so true e.value ≡ e.value = so_after true u r e (ap (λ (v : KeptValue). served_kept v r) also ∙ p) in
     let rest : AreSummed e.value x J = adds_sums rs e.value x next (steady_left u r e steady p) more in
@@ -109,13 +109,13 @@ unfolding line_read
 mark_read m one low = ap (take line_limit) (feed_ended m one) ∙ take_all line_limit m low
 
 -- what begins as a mark is one
-is_text : (lines answers end m : List ℕ) → m ≡ stem lines answers ++ end → length m ≤ line_limit → is_mark m ≡ true
-is_text lines answers end m is low = ap is_mark (sym (take_all line_limit m low) ∙ ap (take line_limit) is) ∙ is_mark_text line_limit lines answers end (omega arith)
+is_text : (lines answers end m : List ℕ) → m ≡ stem lines answers ++ end → length m ≤ line_limit → is_mark_line m ≡ true
+is_text lines answers end m is low = ap is_mark_line (sym (take_all line_limit m low) ∙ ap (take line_limit) is) ∙ is_mark_text line_limit lines answers end (omega arith)
 
 -- behind a mark that agrees
-after_mark : (x : KeptValue) (m : List ℕ) (e : Effect KeptValue) → e.value.sums ≡ marked x.sums m → is_whole (marked x.sums m) ≡ true → IsSteady x.sums → IsSound e.value
+after_mark : (x : KeptValue) (m : List ℕ) (e : Effect KeptValue) → e.value.sums ≡ mark_compared x.sums m → marks_agree (mark_compared x.sums m) ≡ true → IsSteady x.sums → IsSound e.value
 after_mark x m e sums whole steady = record {
-  whole = ap is_whole sums ∙ whole;
+  whole = ap marks_agree sums ∙ whole;
   told = ap (λ (s : Sums). s.told) sums ∙ marked_told x.sums m ∙ sym (marked_answers x.sums m) ∙ sym (ap (λ (s : Sums). s.answers) sums);
   steady = subst IsSteady (sym sums) (record {
     told = λ ends. marked_told x.sums m ∙ sym (marked_answers x.sums m);
@@ -131,10 +131,10 @@ no_line (b ∷ m) h = absurd (cc)
 ends_alike : (m r : List ℕ) → m ++ 10 ∷ [] ≡ r ++ 10 ∷ [] → m ≡ r
 ends_alike m r h = append_cancel_right m r (10 ∷ []) h
 
-sounds : (v u x : KeptValue) (rs : List (List ℕ)) (e : Effect KeptValue) → part_of v ≡ part_of u → kept_so true u ≡ u → IsSound u → Adds served_kept would_change mark_of kept_so has_store part_of keeps_part u rs x
-    → served_kept x (line_read (mark_of v (joined served_kept would_change mark_of kept_so has_store part_of keeps_part rs) ++ 10 ∷ [])) ≡ Ok e → IsSound e.value
+sounds : (v u x : KeptValue) (rs : List (List ℕ)) (e : Effect KeptValue) → kept_part v ≡ kept_part u → kept_so true u ≡ u → IsSound u → Adds served_kept would_change mark_of kept_so has_store kept_part keeps_part u rs x
+    → served_kept x (line_read (mark_of v (joined served_kept would_change mark_of kept_so has_store kept_part keeps_part rs) ++ 10 ∷ [])) ≡ Ok e → IsSound e.value
 sounds v u x rs e same also sound adds p =
-    let J : List ℕ = joined served_kept would_change mark_of kept_so has_store part_of keeps_part rs in
+    let J : List ℕ = joined served_kept would_change mark_of kept_so has_store kept_part keeps_part rs in
     let m : List ℕ = mark_of v J in
     let is : AreSummed u x J = adds_sums rs u x also sound.steady adds in
     let answers : v.sums.answers ≡ x.sums.told = ap (λ (k : KeptPart). k.answers) same ∙ sym sound.told ∙ sym is.told in
@@ -159,7 +159,7 @@ replayed_steady : (text : List ℕ) (begun : KeptValue) → IsReplayed served_ke
 replayed_steady text begun was = begun_steady (lines_of (whole_in text_limit text)) idle_kept begun idle_steady (leads_of served_kept idle_kept (lines_of (whole_in text_limit text)) was.answers begun was.serves)
 
 -- and goes on is sound
-start_sound : (rebases : Bool) (begun x : KeptValue) (start : List ℕ) → IsSteady begun.sums → Starts rebases begun.sums start → Passes served_kept would_change mark_of kept_so has_store part_of keeps_part start begun x → IsSound x
+start_sound : (rebases : Bool) (begun x : KeptValue) (start : List ℕ) → IsSteady begun.sums → Starts rebases begun.sums start → Passes served_kept would_change mark_of kept_so has_store kept_part keeps_part start begun x → IsSound x
 start_sound rebases begun x start steady (inl (is, none)) (inl (also, same)) =
     subst IsSound same (record { whole = is; told = steady.told (both_of begun.sums.differs begun.sums.ends is).1; steady = steady })
 start_sound rebases begun x start steady (inl (is, none)) (inr (m, e, line, p, same)) = let bad : m ++ 10 ∷ [] ≡ [] = sym line ∙ none in absurd (no_line m bad)
@@ -212,14 +212,14 @@ module _ {D : Type 0} {g : Ghosts D} (rebases : Bool) (log mid go : Log D g) (v 
             let lines : AreLines (text_in log) = subst AreLines text (mid.kept (honest (clean h))).lines in
             let all : AreLines ((text_in log ++ goes.start) ++ was_done.kept) = subst AreLines kept (log_new.kept h).lines in
             let fits : length ((text_in log ++ goes.start) ++ was_done.kept) ≤ text_limit = subst (λ (t : List ℕ). length t ≤ text_limit) kept low in
-            gives_back served_kept would_change mark_of kept_so has_store part_of keeps_part (text_in log) goes.start was_done.text was_done.kept was_done.parts idle_kept begun (counted_anew begun) ended again refl (replayed (honest (clean h)))
+            gives_back served_kept would_change mark_of kept_so has_store kept_part keeps_part (text_in log) goes.start was_done.text was_done.kept was_done.parts idle_kept begun (counted_anew begun) ended again refl (replayed (honest (clean h)))
             (start_begins rebases begun.sums goes.start goes.starts) refl was_done.told lines all fits (subst (λ (t : List ℕ). IsReplayed served_kept idle_kept t again) kept now);
         agrees = λ h low again now.
             let kept : text_in log_new ≡ (text_in log ++ goes.start) ++ was_done.kept = (was_done.keeps h).now ∙ ap (λ (t : List ℕ). t ++ was_done.kept) (first_is h) in
             let lines : AreLines (text_in log) = subst AreLines text (mid.kept (honest (clean h))).lines in
             let all : AreLines ((text_in log ++ goes.start) ++ was_done.kept) = subst AreLines kept (log_new.kept h).lines in
             let fits : length ((text_in log ++ goes.start) ++ was_done.kept) ≤ text_limit = subst (λ (t : List ℕ). length t ≤ text_limit) kept low in
-            let sound : IsSound again = gives_sound served_kept would_change mark_of kept_so has_store part_of keeps_part change_same IsSound sounds (text_in log) goes.start was_done.text was_done.kept was_done.parts idle_kept begun (counted_anew begun) ended again refl (replayed (honest (clean h)))
+            let sound : IsSound again = gives_sound served_kept would_change mark_of kept_so has_store kept_part keeps_part change_same IsSound sounds (text_in log) goes.start was_done.text was_done.kept was_done.parts idle_kept begun (counted_anew begun) ended again refl (replayed (honest (clean h)))
             (start_begins rebases begun.sums goes.start goes.starts) refl was_done.told lines all fits (subst (λ (t : List ℕ). IsReplayed served_kept idle_kept t again) kept now)
             (λ x passed. start_sound rebases begun x goes.start (replayed_steady (text_in log) begun (replayed (honest (clean h)))) goes.starts passed) in
             sound.whole;

@@ -6,8 +6,8 @@ use Rattle.snap_log.specs.Batches.{none_yet}
 use Rattle.snap_log.specs.Log.{disk_of, text_in, IsHonest, Keeps}
 use Rattle.snap_log.specs.Texts.{log_text}
 use Rattle.snap_marks.specs.declared.sums.Sums.{Sums}
-use Rattle.snap_marks.specs.Sums.{is_whole, rebased_mark}
-use Rattle.snap_session.specs.Kept.{KeptValue, counted_anew, has_store, idle_kept, kept_so, mark_of, part_of, served_kept, would_change}
+use Rattle.snap_marks.specs.Sums.{marks_agree, rebased_mark}
+use Rattle.snap_session.specs.Kept.{KeptValue, counted_anew, has_store, idle_kept, kept_so, mark_of, kept_part, served_kept, would_change}
 use Rattle.snap_durable.specs.Ended.{disk_ended}
 use Rattle.snap_durable.specs.Parts.{LeavesPart, line_limit}
 use Rattle.snap_durable.specs.Served.{Done, IsReplayed, text_limit}
@@ -16,7 +16,7 @@ use Rattle.snap_durable.specs.declared.logged.Unserved.TheVariants.{Replay, Diff
 
 -- With which lines a log goes on that has these sums: none, where its marks agree; else, where that is wanted, a mark from which on they are compared anew.
 abbrev pub Starts : Bool → Sums → List ℕ → Type 0
-Starts rebases s start = ((is_whole s ≡ true) × (start ≡ [])) ⊎ ((is_whole s ≡ false) × (rebases ≡ true) × (start ≡ rebased_mark s ++ 10 ∷ []))
+Starts rebases s start = ((marks_agree s ≡ true) × (start ≡ [])) ⊎ ((marks_agree s ≡ false) × (rebases ≡ true) × (start ≡ rebased_mark s ++ 10 ∷ []))
 
 module _ {D : Type 0} {g : Ghosts D} where
   -- the disk where no line or not all lines were answered
@@ -46,7 +46,7 @@ module _ {D : Type 0} {g : Ghosts D} where
 
   -- a log whose lines were carried out has marks that don't agree, and is as it was
   pub record IsRefused (log log_new : Log D g) (s : Sums) : Type 0 where
-    pub differs : is_whole s ≡ false
+    pub differs : marks_agree s ≡ false
     pub text : text_in log_new ≡ text_in log
     pub begun : KeptValue
     pub found : begun.sums ≡ s
@@ -60,8 +60,8 @@ module _ {D : Type 0} {g : Ghosts D} where
     pub start : List ℕ
     pub starts : Starts rebases begun.sums start
     pub done : Done served_kept would_change mark_of kept_so has_store line_limit bytes (counted_anew begun) (text_in log ++ start) before ended log_new after
-    pub gives_back : IsHonest log_new → length (text_in log_new) ≤ text_limit → (again : KeptValue) → IsReplayed served_kept idle_kept (text_in log_new) again → part_of ended ≡ part_of again
-    pub agrees : IsHonest log_new → length (text_in log_new) ≤ text_limit → (again : KeptValue) → IsReplayed served_kept idle_kept (text_in log_new) again → is_whole again.sums ≡ true
+    pub gives_back : IsHonest log_new → length (text_in log_new) ≤ text_limit → (again : KeptValue) → IsReplayed served_kept idle_kept (text_in log_new) again → kept_part ended ≡ kept_part again
+    pub agrees : IsHonest log_new → length (text_in log_new) ≤ text_limit → (again : KeptValue) → IsReplayed served_kept idle_kept (text_in log_new) again → marks_agree again.sums ≡ true
 
 -- what a crash leaves of that: the log's text, where no line was answered, or what was kept of a first part of the input behind it
 pub record LeavesLog (rebases : Bool) (bytes text file : List ℕ) (before after : Option (List ℕ)) : Type 0 where

@@ -2,7 +2,7 @@
 ghost use Rattle.std.specs.Prelude.{⊥, ◌≡◌, ◌++◌, ◌∷◌, [], false, ℕ, List, IfErr, IfOk, IfSome, IsTrue};
 ghost use Rattle.snap_log.specs.Kept.{IsBeforeOrAfter};
 ghost use Rattle.snap_log.specs.Log.{text_in, IsHonest, Keeps};
-ghost use Rattle.snap_marks.specs.Sums.{is_whole, rebased_mark};
+ghost use Rattle.snap_marks.specs.Sums.{marks_agree, rebased_mark};
 ghost use Rattle.snap_session.specs.Kept.{idle_kept};
 ghost use Rattle.snap_durable.specs.Logged.{HasServedLog, HasStarted, IfDiffers, IsRefused, LeavesLog, Starts, disk_left, disk_unserved};
 
@@ -72,7 +72,7 @@ fn started<N: StoreName, D: Disk>(
     rebases: bool,
 ) -> Result<Log<D>, Unserved<D>>
     ensures started { IfOk result (λ log_new. HasStarted rebases server.now.sums log log_new) }
-    ensures differs { IfErr result (λ why. IfDiffers why (λ log_new sums. (log_new ≡ log) × (sums ≡ server.now.sums) × (is_whole sums ≡ false))) }
+    ensures differs { IfErr result (λ why. IfDiffers why (λ log_new sums. (log_new ≡ log) × (sums ≡ server.now.sums) × (marks_agree sums ≡ false))) }
     ensures crash { IfErr result (λ why. IsTrue (D.Disk.is_clean (disk_unserved why)) → (c : List ℕ) → D.Disk.may_leave (disk_unserved why) c
         → (start : List ℕ) × Starts rebases server.now.sums start × IsBeforeOrAfter (text_in log) start c) }
     ensures clean { IsTrue (D.Disk.is_clean (disk_left result)) → IsHonest log }

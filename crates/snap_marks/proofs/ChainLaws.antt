@@ -1,7 +1,6 @@
 -- Sums go on byte by byte.
-use Rattle.std.proofs.Common.{◌≡◌, ◌≤◌, ◌<◌, ◌+◌, ◌-◌, ℕ, suc, List, [], ◌∷◌, ◌++◌, length, take, drop, slice_index, true, false, ◌==◌, refl, sym, ap, ◌∙◌, arith, get_or, get_or-drop, length-drop}
+use Rattle.std.proofs.Common.{◌≡◌, ◌≤◌, ◌<◌, ◌+◌, ◌-◌, ℕ, suc, List, [], ◌∷◌, ◌++◌, length, take, drop, slice_index, true, false, ◌==◌, sym, ap, ◌∙◌, arith, get_or, get_or-drop, length-drop}
 use Rattle.std.specs.Prelude.{cond}
-use Rattle.std.proofs.lemmas.Bool.{eqb-true}
 use Rattle.std.proofs.lemmas.List.{drop_more}
 use lib.Seq.{take-suc}
 use Rattle.snap_marks.specs.Marks.{chained, chained_from}

@@ -10,8 +10,8 @@ use Rattle.std.proofs.lemmas.List.{take-take, take_at}
 use lib.Pointwise.{pointwise}
 use Rattle.hex.specs.Hex.{encode_lower, encode_with, lower_digits}
 use Rattle.snap_marks.specs.declared.sums.Sums.{Sums}
-use Rattle.snap_marks.specs.Marks.{chained, chained_from, first_part, head, is_mark, middle, stem, tail}
-use Rattle.snap_marks.specs.Sums.{agreed, differing, is_whole, marked, rebased, rebased_mark, what_differs}
+use Rattle.snap_marks.specs.Marks.{chained, chained_from, first_part, head, is_mark_line, middle, stem, tail}
+use Rattle.snap_marks.specs.Sums.{agreed, differing, marks_agree, mark_compared, rebased, rebased_mark, what_differs}
 
 chosen : {A B : Type 0} (f : A → B) (t u : Bool) (x y z : A) (b : B) → f x ≡ b → f y ≡ b → f z ≡ b → f (if t then x else if u then y else z) ≡ b
 chosen f true u x y z b p q r = p
@@ -20,34 +20,34 @@ chosen f false false x y z b p q r = r
 
 module _ (s : Sums) (mark : List ℕ) where
   -- what holds of all that may be found
-  by_cases : {B : Type 0} (f : Sums → B) (b : B) → f (rebased s) ≡ b → f (agreed s) ≡ b → f (differing s (what_differs s mark)) ≡ b → f (marked s mark) ≡ b
-  unfolding marked
+  by_cases : {B : Type 0} (f : Sums → B) (b : B) → f (rebased s) ≡ b → f (agreed s) ≡ b → f (differing s (what_differs s mark)) ≡ b → f (mark_compared s mark) ≡ b
+  unfolding mark_compared
   by_cases f b p q r = chosen f (bytes_eq mark (rebased_mark s)) (bytes_eq mark (stem s.lines s.told ++ tail)) (rebased s) (agreed s) (differing s (what_differs s mark)) b p q r
 
-  pub marked_lines : (marked s mark).lines ≡ s.lines
+  pub marked_lines : (mark_compared s mark).lines ≡ s.lines
   marked_lines = by_cases (λ (x : Sums). x.lines) s.lines refl refl refl
 
-  pub marked_answers : (marked s mark).answers ≡ s.answers
+  pub marked_answers : (mark_compared s mark).answers ≡ s.answers
   marked_answers = by_cases (λ (x : Sums). x.answers) s.answers refl refl refl
 
-  pub marked_told : (marked s mark).told ≡ s.answers
+  pub marked_told : (mark_compared s mark).told ≡ s.answers
   marked_told = by_cases (λ (x : Sums). x.told) s.answers refl refl refl
 
 -- nothing differs, and the last line is a mark
-pub whole_mark : (s : Sums) (mark : List ℕ) → s.differs ≡ None → mark ≡ stem s.lines s.told ++ tail → is_whole (marked s mark) ≡ true
-unfolding marked
+pub whole_mark : (s : Sums) (mark : List ℕ) → s.differs ≡ None → mark ≡ stem s.lines s.told ++ tail → marks_agree (mark_compared s mark) ≡ true
+unfolding mark_compared
 whole_mark s mark none is = by (bytes_eq mark (rebased_mark s)) (bytes_eq mark (stem s.lines s.told ++ tail)) ((bytes_eq-Decides mark (stem s.lines s.told ++ tail)).1 is)
   where
-    by : (t u : Bool) → u ≡ true → is_whole (if t then rebased s else if u then agreed s else differing s (what_differs s mark)) ≡ true
+    by : (t u : Bool) → u ≡ true → marks_agree (if t then rebased s else if u then agreed s else differing s (what_differs s mark)) ≡ true
     by true u e = refl
     by false true e = ap (λ (d : Option Difference). is_none d && true) none
     by false false e = absurd (cc)
 
-pub whole_rebased : (s : Sums) (mark : List ℕ) → mark ≡ rebased_mark s → is_whole (marked s mark) ≡ true
-unfolding marked
+pub whole_rebased : (s : Sums) (mark : List ℕ) → mark ≡ rebased_mark s → marks_agree (mark_compared s mark) ≡ true
+unfolding mark_compared
 whole_rebased s mark is = by (bytes_eq mark (rebased_mark s)) ((bytes_eq-Decides mark (rebased_mark s)).1 is)
   where
-    by : (t : Bool) → t ≡ true → is_whole (if t then rebased s else if bytes_eq mark (stem s.lines s.told ++ tail) then agreed s else differing s (what_differs s mark)) ≡ true
+    by : (t : Bool) → t ≡ true → marks_agree (if t then rebased s else if bytes_eq mark (stem s.lines s.told ++ tail) then agreed s else differing s (what_differs s mark)) ≡ true
     by true e = refl
     by false e = absurd (cc)
 
@@ -90,13 +90,13 @@ open_mark lines answers end h =
     open_both (stem lines answers) end (open_both (first_part lines) (encode_lower answers) (open_both head (encode_lower lines ++ middle) refl (open_both (encode_lower lines) middle (open_hex lines) refl)) (open_hex answers)) h
 
 -- what begins as a mark is one, though it were cut
-pub begins_mark : (n : ℕ) (bytes : List ℕ) → length head ≤ n → is_mark (take n (head ++ bytes)) ≡ true
+pub begins_mark : (n : ℕ) (bytes : List ℕ) → length head ≤ n → is_mark_line (take n (head ++ bytes)) ≡ true
 begins_mark n bytes low = ap (pointwise (λ a b. a == b) head) (take-take (length head) n (head ++ bytes) low ∙ take_at head bytes (length head) refl) ∙ refl
 
-pub is_mark_text : (n : ℕ) (lines answers end : List ℕ) → length head ≤ n → is_mark (take n (stem lines answers ++ end)) ≡ true
+pub is_mark_text : (n : ℕ) (lines answers end : List ℕ) → length head ≤ n → is_mark_line (take n (stem lines answers ++ end)) ≡ true
 is_mark_text n lines answers end low =
     let more : List ℕ = (encode_lower lines ++ middle) ++ (encode_lower answers ++ end) in
-    ap (λ (m : List ℕ). is_mark (take n m)) (append_assoc (first_part lines) (encode_lower answers) end ∙ append_assoc head (encode_lower lines ++ middle) (encode_lower answers ++ end)) ∙ begins_mark n more low
+    ap (λ (m : List ℕ). is_mark_line (take n m)) (append_assoc (first_part lines) (encode_lower answers) end ∙ append_assoc head (encode_lower lines ++ middle) (encode_lower answers ++ end)) ∙ begins_mark n more low
 
 -- ---- lengths
 

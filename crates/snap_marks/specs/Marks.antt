@@ -21,8 +21,8 @@ abbrev pub tail_rebased : List ℕ
 tail_rebased = codes "\",\"rebased\":true}"
 
 -- a line, without its line feed, is a mark
-abbrev pub is_mark : List ℕ → Bool
-is_mark line = starts_with (λ a b. a == b) line head
+abbrev pub is_mark_line : List ℕ → Bool
+is_mark_line line = starts_with (λ a b. a == b) line head
 
 -- its first part, by the sum of lines
 abbrev pub first_part : List ℕ → List ℕ

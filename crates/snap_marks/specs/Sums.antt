@@ -1,16 +1,16 @@
 -- The sums of a log's lines and answers, and what a replay finds by its marks.
-use Rattle.std.specs.Prelude.{ℕ, ◌+◌, ◌-◌, ◌^◌, ◌==◌, ◌&&◌, min, Bool, true, false, List, [], ◌∷◌, ◌++◌, Option, Some, None, is_none, replicate, if◌then◌else◌, bytes_eq}
+use Rattle.std.specs.Prelude.{ℕ, ◌+◌, ◌-◌, ◌^◌, ◌==◌, ◌&&◌, min, Bool, true, false, List, [], ◌∷◌, ◌++◌, Some, None, is_none, replicate, if◌then◌else◌, bytes_eq}
 use Rattle.std.specs.List.{starts_with}
 use Rattle.snap_marks.specs.declared.sums.Differs.{Differs}
 use Rattle.snap_marks.specs.declared.sums.Differs.TheVariants.{Lines, Answers}
-use Rattle.snap_marks.specs.declared.sums.Difference.{Difference}
 use Rattle.snap_marks.specs.declared.sums.Sums.{Sums}
 use Rattle.snap_marks.specs.Marks.{chained, chained_lines, first_part, stem, tail, tail_rebased}
 
--- before the first line
+-- a sum before the first line
 abbrev pub no_sum : List ℕ
 no_sum = replicate 32 0
 
+-- both sums there, and nothing was found
 abbrev pub no_sums : Sums
 no_sums = record { lines = no_sum; answers = no_sum; told = no_sum; read = 0; agreed = 0; differs = None; ends = true }
 
@@ -51,12 +51,12 @@ abbrev pub rebased_mark : Sums → List ℕ
 rebased_mark s = stem s.lines s.answers ++ tail_rebased
 
 -- behind a mark, which is compared: it agrees where it has the sum of all lines, and of the answers that there were at the mark before
-unfoldable pub marked : Sums → List ℕ → Sums
-marked s mark =
+unfoldable pub mark_compared : Sums → List ℕ → Sums
+mark_compared s mark =
     if bytes_eq mark (rebased_mark s) then rebased s
     else if bytes_eq mark (stem s.lines s.told ++ tail) then agreed s
     else differing s (what_differs s mark)
 
 -- each mark agrees, and the last line is one, if there is any
-abbrev pub is_whole : Sums → Bool
-is_whole s = is_none s.differs && s.ends
+abbrev pub marks_agree : Sums → Bool
+marks_agree s = is_none s.differs && s.ends

@@ -1,13 +1,13 @@
 // The text of a mark, and the sums that it has.
 ghost use Rattle.std.specs.Prelude.{◌≡◌, ◌++◌, ◌∷◌, [], IfOk};
-ghost use Rattle.snap_marks.specs.Marks.{chained, chained_from, chained_lines, first_part, is_mark, stem};
+ghost use Rattle.snap_marks.specs.Marks.{chained, chained_from, chained_lines, first_part, is_mark_line, stem};
 
 use sha2::{Digest, Sha256};
 use std::alloc::{AllocError, Global};
 
 /// Whether a line, which stands here without its line feed, is a mark. Takes no memory.
 pub fn is_mark(line: &[u8]) -> bool
-    ensures { result ≡ is_mark line.now }
+    ensures { result ≡ is_mark_line line.now }
 {
     line.starts_with(b"{\"do\":\"report\",\"lines\":\"")
 }

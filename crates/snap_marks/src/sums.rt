@@ -1,7 +1,7 @@
 // The sums of a log, as its lines are carried out.
 ghost use Rattle.std.specs.Prelude.{◌≡◌, ◌++◌, IfOk, OnErr, OnOk, bytes_eq};
 ghost use Rattle.snap_marks.specs.Marks.{stem, tail, tail_rebased};
-ghost use Rattle.snap_marks.specs.Sums.{agreed, differing, is_whole, mark_behind, marked, next_read, no_sums, passed, rebased, rebased_mark, summed, what_differs};
+ghost use Rattle.snap_marks.specs.Sums.{agreed, differing, marks_agree, mark_behind, mark_compared, next_read, no_sums, passed, rebased, rebased_mark, summed, what_differs};
 
 use crate::mark::{chained, chained_line, chained_lines, first_part, stem};
 use std::alloc::{AllocError, Global};
@@ -169,9 +169,9 @@ impl Sums {
     /// Compares a mark, which stands here without its line feed, with the sums.
     ///
     /// `AllocError` where memory for a mark's bytes was refused; the sums are as they were then.
-    #[tactic(auto, unfolding(crate::specs::Sums::marked))]
+    #[tactic(auto, unfolding(crate::specs::Sums::mark_compared))]
     pub fn compare(&mut self, alloc: Global, mark: &[u8]) -> Result<(), AllocError>
-        ensures marked { OnOk result (self.new ≡ marked self.old mark.now) }
+        ensures marked { OnOk result (self.new ≡ mark_compared self.old mark.now) }
         ensures refused { OnErr result (self.new ≡ self.old) }
     {
         let rebased = self.rebased(alloc)?;
@@ -190,7 +190,7 @@ impl Sums {
 
     /// Whether each mark agrees, and the last line is one, if there is any.
     pub fn is_whole(&self) -> bool
-        ensures { result ≡ is_whole self.now }
+        ensures { result ≡ marks_agree self.now }
     {
         self.differs.is_none() && self.ends
     }

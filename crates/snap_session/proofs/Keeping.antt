@@ -16,10 +16,10 @@ use Rattle.snap_script.specs.declared.command.Command.{Command as AnyCommand}
 use Rattle.snap_session.specs.Commands.{command_done}
 use Rattle.snap_session.specs.Opened.{OpenedValue, ScriptValue}
 use Rattle.snap_session.specs.Service.{effect_responded, responded, served}
-use Rattle.snap_session.specs.Kept.{KeptPart, KeptValue, counted_anew, effect_summed, has_store, is_changing, kept_line, kept_so, part_of, served_kept, sums_after, would_change}
+use Rattle.snap_session.specs.Kept.{KeptPart, KeptValue, counted_anew, effect_summed, has_store, is_changing, kept_line, kept_so, kept_part, served_kept, sums_after, would_change}
 use Rattle.snap_marks.specs.declared.sums.Sums.{Sums}
-use Rattle.snap_marks.specs.Marks.{chained, is_mark}
-use Rattle.snap_marks.specs.Sums.{marked, passed, summed}
+use Rattle.snap_marks.specs.Marks.{chained, is_mark_line}
+use Rattle.snap_marks.specs.Sums.{mark_compared, passed, summed}
 use Rattle.snap_marks.proofs.MarkLaws.{length_chained, marked_answers, marked_lines, marked_told}
 use Rattle.snap_session.proofs.Asking.{asked}
 
@@ -93,7 +93,7 @@ answer_alike s n m (Ok line) h = refl
 answer_alike s n m (Err fault) h = absurd (cc)
 
 abbrev sums_by : Bool → Bool → Sums → List ℕ → List ℕ → Sums
-sums_by mark adds s line text = if mark then marked s line else if adds then summed s line text else passed s
+sums_by mark adds s line text = if mark then mark_compared s line else if adds then summed s line text else passed s
 
 -- where a line isn't added, they stay
 lines_left : (mark : Bool) (s : Sums) (line text : List ℕ) → (sums_by mark false s line text).lines ≡ s.lines
@@ -129,8 +129,8 @@ none_added true change (inr h) = h
 
 sums_left : (v : KeptValue) (line : List ℕ) (e : Effect KeptValue) → (v.keeps ≡ false) ⊎ (would_change v line ≡ false) → served_kept v line ≡ Ok e → (e.value.sums.lines ≡ v.sums.lines) × (e.value.sums.answers ≡ v.sums.answers)
 sums_left v line e none h =
-    let is : e.value.sums ≡ sums_by (is_mark line) false v.sums line e.text = sums_are v line e h ∙ ap (λ (adds : Bool). sums_by (is_mark line) adds v.sums line e.text) (none_added v.keeps (would_change v line) none) in
-    (ap (λ (s : Sums). s.lines) is ∙ lines_left (is_mark line) v.sums line e.text, ap (λ (s : Sums). s.answers) is ∙ answers_left (is_mark line) v.sums line e.text)
+    let is : e.value.sums ≡ sums_by (is_mark_line line) false v.sums line e.text = sums_are v line e h ∙ ap (λ (adds : Bool). sums_by (is_mark_line line) adds v.sums line e.text) (none_added v.keeps (would_change v line) none) in
+    (ap (λ (s : Sums). s.lines) is ∙ lines_left (is_mark_line line) v.sums line e.text, ap (λ (s : Sums). s.answers) is ∙ answers_left (is_mark_line line) v.sums line e.text)
 
 -- ---- the laws
 
@@ -139,36 +139,36 @@ pub change_alike : (v w : KeptValue) (line : List ℕ) → script_of v ≡ scrip
 change_alike v w line same = ap (λ (s : ScriptValue). is_changing (kept_line s line)) same
 
 -- a line that changes nothing leaves the part
-pub unchanged_left : (v : KeptValue) (line : List ℕ) (e : Effect KeptValue) → would_change v line ≡ false → served_kept v line ≡ Ok e → part_of e.value ≡ part_of v
+pub unchanged_left : (v : KeptValue) (line : List ℕ) (e : Effect KeptValue) → would_change v line ≡ false → served_kept v line ≡ Ok e → kept_part e.value ≡ kept_part v
 unchanged_left v line e same h =
     let sums = sums_left v line e (inr same) h in
-    parts (part_of e.value) (part_of v) (script_after v line e h ∙ after_leaves (v.keeps || not (would_change v line)) v.server.script line same) sums.0 sums.1
+    parts (kept_part e.value) (kept_part v) (script_after v line e h ∙ after_leaves (v.keeps || not (would_change v line)) v.server.script line same) sums.0 sums.1
 
 -- where lines that change it are carried out, the part after a line is by the part before alone
-pub carried_alike : (v w : KeptValue) (line : List ℕ) (e f : Effect KeptValue) → part_of v ≡ part_of w → served_kept (kept_so true v) line ≡ Ok e → served_kept (kept_so true w) line ≡ Ok f → part_of e.value ≡ part_of f.value
+pub carried_alike : (v w : KeptValue) (line : List ℕ) (e f : Effect KeptValue) → kept_part v ≡ kept_part w → served_kept (kept_so true v) line ≡ Ok e → served_kept (kept_so true w) line ≡ Ok f → kept_part e.value ≡ kept_part f.value
 carried_alike v w line e f same h k =
     let script : script_of v ≡ script_of w = ap (λ (p : KeptPart). p.script) same in
     let adds : would_change v line ≡ would_change w line = change_alike v w line script in
-    let ours : e.value.sums ≡ sums_by (is_mark line) (would_change v line) v.sums line e.text = sums_are (kept_so true v) line e h in
-    let theirs : f.value.sums ≡ sums_by (is_mark line) (would_change v line) w.sums line f.text = sums_are (kept_so true w) line f k ∙ ap (λ (t : Bool). sums_by (is_mark line) t w.sums line f.text) (sym adds) in
+    let ours : e.value.sums ≡ sums_by (is_mark_line line) (would_change v line) v.sums line e.text = sums_are (kept_so true v) line e h in
+    let theirs : f.value.sums ≡ sums_by (is_mark_line line) (would_change v line) w.sums line f.text = sums_are (kept_so true w) line f k ∙ ap (λ (t : Bool). sums_by (is_mark_line line) t w.sums line f.text) (sym adds) in
     let text : would_change v line ≡ true → e.text ≡ f.text = λ is.
     text_is (kept_so true v) line e refl h
     ∙ ap (response_line (id_of line)) (answer_alike v.server.script (next_line v.server.lines) (next_line w.server.lines) (kept_line v.server.script line) is)
     ∙ ap (λ (s : ScriptValue). response_line (id_of line) (responded s (next_line w.server.lines) (kept_line s line)).1) script
     ∙ sym (text_is (kept_so true w) line f refl k) in
-    parts (part_of e.value) (part_of f.value)
+    parts (kept_part e.value) (kept_part f.value)
     (script_after (kept_so true v) line e h ∙ ap (λ (s : ScriptValue). after true s line) script ∙ sym (script_after (kept_so true w) line f k))
-    (ap (λ (s : Sums). s.lines) ours ∙ lines_alike (is_mark line) (would_change v line) v.sums w.sums line e.text f.text (ap (λ (p : KeptPart). p.lines) same) ∙ sym (ap (λ (s : Sums). s.lines) theirs))
-    (ap (λ (s : Sums). s.answers) ours ∙ answers_alike (is_mark line) (would_change v line) v.sums w.sums line e.text f.text (ap (λ (p : KeptPart). p.answers) same) text ∙ sym (ap (λ (s : Sums). s.answers) theirs))
+    (ap (λ (s : Sums). s.lines) ours ∙ lines_alike (is_mark_line line) (would_change v line) v.sums w.sums line e.text f.text (ap (λ (p : KeptPart). p.lines) same) ∙ sym (ap (λ (s : Sums). s.lines) theirs))
+    (ap (λ (s : Sums). s.answers) ours ∙ answers_alike (is_mark_line line) (would_change v line) v.sums w.sums line e.text f.text (ap (λ (p : KeptPart). p.answers) same) text ∙ sym (ap (λ (s : Sums). s.answers) theirs))
 
 -- where they aren't, every line leaves it
-pub unkept_left : (v : KeptValue) (line : List ℕ) (e : Effect KeptValue) → served_kept (kept_so false v) line ≡ Ok e → part_of e.value ≡ part_of v
+pub unkept_left : (v : KeptValue) (line : List ℕ) (e : Effect KeptValue) → served_kept (kept_so false v) line ≡ Ok e → kept_part e.value ≡ kept_part v
 unkept_left v line e h =
     let sums = sums_left (kept_so false v) line e (inl refl) h in
-    parts (part_of e.value) (part_of v) (script_after (kept_so false v) line e h ∙ stays v.server.script line (would_change v line) refl) sums.0 sums.1
+    parts (kept_part e.value) (kept_part v) (script_after (kept_so false v) line e h ∙ stays v.server.script line (would_change v line) refl) sums.0 sums.1
 
 -- whether they are carried out says nothing of the part, and stays so
-pub so_left : (keeps : Bool) (v : KeptValue) → part_of (kept_so keeps v) ≡ part_of v
+pub so_left : (keeps : Bool) (v : KeptValue) → kept_part (kept_so keeps v) ≡ kept_part v
 so_left keeps v = refl
 
 pub so_again : (keeps before : Bool) (v : KeptValue) → kept_so keeps (kept_so before v) ≡ kept_so keeps v
@@ -179,22 +179,22 @@ unfolding served_kept
 so_after keeps v line e h = ap (λ (r : Result (Effect KeptValue) Fault). let w : KeptValue = record { server = e.value.server; keeps = (value_in e.value r).keeps; sums = e.value.sums } in w) h
 
 -- nor does the number of lines
-pub anew_left : (v : KeptValue) → part_of (counted_anew v) ≡ part_of v
+pub anew_left : (v : KeptValue) → kept_part (counted_anew v) ≡ kept_part v
 anew_left v = refl
 
 -- a mark changes nothing
-pub mark_changes : (v : KeptValue) (line : List ℕ) → is_mark line ≡ true → would_change v line ≡ false
+pub mark_changes : (v : KeptValue) (line : List ℕ) → is_mark_line line ≡ true → would_change v line ≡ false
 mark_changes v line h = ap (λ (t : Bool). is_changing (if t then Ok Empty else line_of KnownAndId (is_some v.server.script.store) line)) h
 
 -- a mark is compared with the sums
-pub mark_sums : (v : KeptValue) (line : List ℕ) (e : Effect KeptValue) → is_mark line ≡ true → served_kept v line ≡ Ok e → e.value.sums ≡ marked v.sums line
+pub mark_sums : (v : KeptValue) (line : List ℕ) (e : Effect KeptValue) → is_mark_line line ≡ true → served_kept v line ≡ Ok e → e.value.sums ≡ mark_compared v.sums line
 mark_sums v line e is h = sums_are v line e h ∙ ap (λ (t : Bool). sums_by t (v.keeps && would_change v line) v.sums line e.text) is
 
 -- and what changes something is none
-no_mark : (v : KeptValue) (line : List ℕ) → would_change v line ≡ true → is_mark line ≡ false
-no_mark v line change = by (is_mark line) refl
+no_mark : (v : KeptValue) (line : List ℕ) → would_change v line ≡ true → is_mark_line line ≡ false
+no_mark v line change = by (is_mark_line line) refl
   where
-    by : (t : Bool) → is_mark line ≡ t → is_mark line ≡ false
+    by : (t : Bool) → is_mark_line line ≡ t → is_mark_line line ≡ false
     by true is = let bad : true ≡ false = sym change ∙ mark_changes v line is in absurd (cc)
     by false is = is
 
@@ -222,10 +222,10 @@ steady_by false true s line text is = record { told = λ ends. absurd (cc); line
 steady_by false false s line text is = record { told = λ ends. absurd (cc); lines = is.lines; answers = is.answers }
 
 pub steady_left : (v : KeptValue) (line : List ℕ) (e : Effect KeptValue) → IsSteady v.sums → served_kept v line ≡ Ok e → IsSteady e.value.sums
-steady_left v line e is h = subst IsSteady (sym (sums_are v line e h)) (steady_by (is_mark line) (v.keeps && would_change v line) v.sums line e.text is)
+steady_left v line e is h = subst IsSteady (sym (sums_are v line e h)) (steady_by (is_mark_line line) (v.keeps && would_change v line) v.sums line e.text is)
 
 -- where they are, a line that is no mark does to the server what it does to any other
-pub served_alike : (v : KeptValue) (line : List ℕ) → is_mark line ≡ false → served_kept (kept_so true v) line ≡ (served v.server line >>= (λ it. Ok (effect_summed (kept_so true v) line it)))
+pub served_alike : (v : KeptValue) (line : List ℕ) → is_mark_line line ≡ false → served_kept (kept_so true v) line ≡ (served v.server line >>= (λ it. Ok (effect_summed (kept_so true v) line it)))
 unfolding served_kept served
 served_alike v line h =
     let read : kept_line v.server.script line ≡ line_of KnownAndId (is_some v.server.script.store) line = ap (λ (t : Bool). if t then Ok Empty else line_of KnownAndId (is_some v.server.script.store) line) h in
@@ -255,4 +255,4 @@ store_left v line e stands h = ap (λ (s : ScriptValue). is_some s.store) (scrip
 
 -- so which lines would change it stays the same
 pub changes_left : (v : KeptValue) (line more : List ℕ) (e : Effect KeptValue) → has_store v ≡ true → served_kept v line ≡ Ok e → would_change e.value more ≡ would_change v more
-changes_left v line more e stands h = ap (λ (b : Bool). is_changing (if is_mark more then Ok Empty else line_of KnownAndId b more)) (store_left v line e stands h ∙ sym stands)
+changes_left v line more e stands h = ap (λ (b : Bool). is_changing (if is_mark_line more then Ok Empty else line_of KnownAndId b more)) (store_left v line e stands h ∙ sym stands)

@@ -11,8 +11,8 @@ use Rattle.snap_script.specs.declared.response.Response.TheVariants.{NotKept}
 use Rattle.snap_script.specs.declared.unknown.FieldRule.TheVariants.{KnownAndId}
 use Rattle.snap_lines.specs.Effects.{Effect, Effects}
 use Rattle.snap_marks.specs.declared.sums.Sums.{Sums}
-use Rattle.snap_marks.specs.Marks.{is_mark}
-use Rattle.snap_marks.specs.Sums.{mark_behind, marked, no_sums, passed, summed}
+use Rattle.snap_marks.specs.Marks.{is_mark_line}
+use Rattle.snap_marks.specs.Sums.{mark_behind, mark_compared, no_sums, passed, summed}
 use Rattle.snap_lines.specs.Transcripts.{next_line}
 use Rattle.snap_session.specs.Opened.{ScriptValue}
 use Rattle.snap_session.specs.Service.{ServerValue, effect_responded, idle, responded}
@@ -47,7 +47,7 @@ is_changing (Err fault) = false
 
 -- what is read of a line: a mark is passed over, as an empty line
 abbrev pub kept_line : ScriptValue → List ℕ → Result Line Fault
-kept_line s bytes = if is_mark bytes then Ok Empty else line_of KnownAndId (is_some s.store) bytes
+kept_line s bytes = if is_mark_line bytes then Ok Empty else line_of KnownAndId (is_some s.store) bytes
 
 -- the line would change a store, or open one
 abbrev pub would_change : KeptValue → List ℕ → Bool
@@ -60,7 +60,7 @@ responded_kept v line = if v.keeps || not (is_changing line) then responded v.se
 -- the sums behind a line that has this text: a mark is compared with them, and a line that was kept and carried out is added
 abbrev pub sums_after : KeptValue → List ℕ → List ℕ → Sums
 sums_after v bytes text =
-    if is_mark bytes then marked v.sums bytes
+    if is_mark_line bytes then mark_compared v.sums bytes
     else if v.keeps && would_change v bytes then summed v.sums bytes text
     else passed v.sums
 
@@ -82,5 +82,6 @@ pub record KeptPart : Type 0 where
   pub lines : List ℕ
   pub answers : List ℕ
 
-abbrev pub part_of : KeptValue → KeptPart
-part_of v = record { script = v.server.script; lines = v.sums.lines; answers = v.sums.answers }
+-- this part of a server
+abbrev pub kept_part : KeptValue → KeptPart
+kept_part v = record { script = v.server.script; lines = v.sums.lines; answers = v.sums.answers }

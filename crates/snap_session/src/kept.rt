@@ -1,9 +1,9 @@
 ghost use Rattle.std.specs.Prelude.{◌≡◌, ◌||◌, if◌then◌else◌, not, IfOk, OnOk};
-ghost use Rattle.snap_marks.specs.Marks.{is_mark};
-ghost use Rattle.snap_marks.specs.Sums.{is_whole, marked, passed, rebased_mark, summed};
+ghost use Rattle.snap_marks.specs.Marks.{is_mark_line};
+ghost use Rattle.snap_marks.specs.Sums.{marks_agree, mark_compared, passed, rebased_mark, summed};
 ghost use Rattle.snap_script.specs.Requests.{id_of};
 ghost use Rattle.snap_lines.specs.Transcripts.{next_line};
-ghost use Rattle.snap_session.specs.Kept.{counted_anew, has_store, idle_kept, is_changing, kept_line, kept_so, mark_of, responded_kept, served_kept, sums_after, would_change};
+ghost use Rattle.snap_session.specs.Kept.{counted_anew, has_store, idle_kept, is_changing, kept_line, kept_so, mark_of, responded_kept, served_kept, would_change};
 
 use crate::server::Server;
 use snap_ledger::{NewTable, StoreName};
@@ -83,7 +83,7 @@ impl<N: StoreName> KeptServer<N> {
     /// Whether each mark among the lines agreed with those before it and with their answers, and the last line was one,
     /// if there was any.
     pub fn is_whole(&self) -> bool
-        ensures { result ≡ is_whole self.now.sums }
+        ensures { result ≡ marks_agree self.now.sums }
     {
         self.sums.is_whole()
     }
@@ -139,7 +139,7 @@ fn add_line(
     line: &[u8],
     text: &[u8],
 ) -> Result<(), NoMemory>
-    ensures { OnOk result (sums.new ≡ (if is_mark line.now then marked sums.old line.now else if adds then summed sums.old line.now text.now else passed sums.old)) }
+    ensures { OnOk result (sums.new ≡ (if is_mark_line line.now then mark_compared sums.old line.now else if adds then summed sums.old line.now text.now else passed sums.old)) }
 {
     if is_mark(line) {
         sums.compare(alloc, line)?;

@@ -1,6 +1,5 @@
-use Rattle.std.proofs.Common.{◌≡◌, ◌≤◌, ◌<◌, ◌+◌, ◌-◌, ◌==◌, ◌++◌, ◌∷◌, [], ℕ, List, length, take, drop, slice_index, true, false, refl, sym, ap, ◌∙◌, subst, arith}
+use Rattle.std.proofs.Common.{◌≡◌, ◌≤◌, ◌<◌, ◌+◌, ◌-◌, ◌==◌, [], ℕ, List, length, take, drop, slice_index, true, false, sym, ap, ◌∙◌, subst, arith}
 use Rattle.std.proofs.lemmas.Bool.{ne_eqb}
-use Rattle.std.proofs.lemmas.Bool.Decides.{nat_tests}
 use Rattle.snap_marks.specs.Marks.{chained_from}
 use Rattle.snap_marks.proofs.ChainLaws.{ended, more}
 use Rattle.snap_marks.proofs.mark.chained_lines.Goals.{then-lines-at-eq10, else-lines-at-eq10}
