@@ -1,11 +1,12 @@
 -- What is kept of a server over a log, and how a run over one is put together.
-use Rattle.std.proofs.Common.{◌≡◌, inl, inr, ℕ, ◌≤◌, length, List, [], ◌∷◌, ◌++◌, Bool, true, Option, Some, None, Result, Ok, Err, refl, ap, take, ◌∙◌, arith, subst}
-use Rattle.std.specs.Prelude.{is_ok, IfSome}
+use Rattle.std.proofs.Common.{◌⊎◌, ◌+◌, ◌≡◌, inl, inr, ℕ, ◌≤◌, length, List, [], ◌∷◌, ◌++◌, Bool, true, Option, Some, None, Result, Ok, Err, refl, ap, take, ◌∙◌, arith, subst, false, sym, ap₂, append_assoc}
+use Rattle.std.specs.Prelude.{is_none, is_ok, IfSome, ◌&&◌, ◌||◌, not, ◌==◌}
+use Rattle.std.specs.List.{list_all}
 use Rattle.sqlite_disk.specs.declared.Disk.{Ghosts}
 use Rattle.snap_log.specs.Batches.{none_yet}
 use Rattle.snap_log.specs.Kept.{IsBeforeOrAfter}
 use Rattle.snap_log.specs.Log.{text_in, IsHonest, Keeps}
-use Rattle.snap_log.specs.Texts.{AreLines, log_text}
+use Rattle.snap_log.specs.Texts.{AreLines, has_feed, is_line, log_text}
 use Rattle.snap_log.specs.declared.log.Log.{Log}
 use Rattle.snap_script.specs.declared.fault.Fault.{Fault}
 use Rattle.snap_lines.specs.Effects.{Effect}
@@ -16,6 +17,7 @@ use Rattle.snap_durable.proofs.PartLaws.{leaves_none}
 use Rattle.snap_durable.proofs.RestartLaws.{Adds, Begins, Passes, gives_back, gives_sound, joined}
 use Rattle.snap_durable.proofs.LeadLaws.{Leads, leads_of}
 use Rattle.snap_session.specs.Kept.{KeptPart, KeptValue, counted_anew, has_store, idle_kept, kept_so, mark_of, kept_part, served_kept, would_change}
+use Rattle.snap_lines.specs.Lines.{lines_of}
 use Rattle.snap_lines.proofs.LineLaws.{feed_ended}
 use Rattle.snap_marks.specs.declared.sums.Sums.{Sums}
 use Rattle.snap_marks.specs.Marks.{chained_lines, is_mark_line, stem, tail, tail_rebased}
@@ -55,6 +57,18 @@ keeps_part = record {
   one_line = λ v lines. open_mark (chained_lines v.sums.lines lines) v.sums.answers tail refl;
   marks = λ v w lines. text_left (chained_lines w.sums.lines lines) w.sums.answers tail refl v;
 }
+
+-- a mark is a line of a log
+no_feed : (bytes : List ℕ) → IsOneLine bytes → has_feed bytes ≡ false
+no_feed [] one = refl
+no_feed (b ∷ bytes) one = by (b == 10) (no_feed bytes) one
+  where
+    by : (t : Bool) → (IsOneLine bytes → has_feed bytes ≡ false) → (not t && list_all (λ b. not (b == 10)) bytes) ≡ true → (t || has_feed bytes) ≡ false
+    by true none h = absurd (cc)
+    by false none h = none h
+
+pub mark_line : (s : Sums) → is_line (rebased_mark s) ≡ true
+mark_line s = ap (λ (t : Bool). not t) (no_feed (rebased_mark s) (open_mark s.lines s.answers tail_rebased refl))
 
 -- what a log begins with changes nothing
 start_begins : (rebases : Bool) (s : Sums) (start : List ℕ) → Starts rebases s start → Begins served_kept would_change mark_of kept_so has_store kept_part keeps_part start
@@ -259,3 +273,9 @@ started_leaves rebases text start f v begun (Some bytes) x idles was starts (inr
     leaves_none served_kept would_change mark_of kept_so has_store (counted_anew begun) (none_yet line_limit) (text ++ start) (bytes ++ 10 ∷ []) f x after,
   );
 }
+
+-- where it didn't begin
+pub stopped_leaves : (rebases : Bool) (text mid f : List ℕ) (v begun : KeptValue) (first x : Option (List ℕ)) → v ≡ idle_kept → mid ≡ text → IsReplayed served_kept v text begun → (log_text f ≡ mid) ⊎ ((start : List ℕ) × Starts rebases begun.sums start × IsBeforeOrAfter mid start f)
+    → IfSome first (λ bytes. LeavesLog rebases bytes text f x x)
+stopped_leaves rebases text mid f v begun first x idles same was (inl before) = unserved_leaves rebases text f first x (before ∙ same)
+stopped_leaves rebases text mid f v begun first x idles same was (inr (start, starts, either)) = started_leaves rebases text start f v begun first x idles was starts (subst (λ (t : List ℕ). IsBeforeOrAfter t start f) same either)

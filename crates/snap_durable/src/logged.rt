@@ -1,7 +1,8 @@
 // A server of scripts over a log.
-ghost use Rattle.std.specs.Prelude.{⊥, ◌≡◌, ◌++◌, ◌∷◌, [], false, ℕ, List, IfErr, IfOk, IfSome, IsTrue};
+ghost use Rattle.std.specs.Prelude.{◌≡◌, ◌⊎◌, ◌++◌, ◌∷◌, [], false, ℕ, List, IfErr, IfOk, IfSome, IsTrue};
 ghost use Rattle.snap_log.specs.Kept.{IsBeforeOrAfter};
 ghost use Rattle.snap_log.specs.Log.{text_in, IsHonest, Keeps};
+ghost use Rattle.snap_log.specs.Texts.{log_text};
 ghost use Rattle.snap_marks.specs.Sums.{marks_agree, rebased_mark};
 ghost use Rattle.snap_session.specs.Kept.{idle_kept};
 ghost use Rattle.snap_durable.specs.Logged.{HasServedLog, HasStarted, IfDiffers, IsRefused, LeavesLog, Starts, disk_left, disk_unserved};
@@ -10,8 +11,10 @@ use crate::ended::Ended;
 use crate::restart::{ReplayError, replay};
 use crate::serve::serve_lines;
 use snap_ledger::{NewTable, StoreName};
+use snap_lines::Stop;
 use snap_log::{AppendFailed, Lines, Log};
 use snap_marks::Sums;
+use snap_path::NoMemory;
 use snap_session::KeptServer;
 use sqlite_disk::Disk;
 use std::alloc::Global;
@@ -33,7 +36,19 @@ pub enum Unserved<D: Disk> {
     Ended(Ended<D>),
 }
 
-// Adds the mark from which on marks are compared anew.
+// The mark from which on marks are compared anew, as a line of a log.
+fn rebased_line<N: StoreName>(alloc: Global, server: &KeptServer<N>) -> Result<Lines, NoMemory>
+    ensures { IfOk result (λ lines. lines ≡ rebased_mark server.now.sums ++ 10 ∷ []) }
+{
+    let mark = server.rebased(alloc)?;
+    let mut lines = Lines::new(alloc);
+    if lines.push(mark.as_slice())? {
+        return Ok(lines);
+    }
+    unreachable!()
+}
+
+// Adds this mark.
 fn rebased<N: StoreName, D: Disk>(
     alloc: Global,
     server: &KeptServer<N>,
@@ -45,16 +60,12 @@ fn rebased<N: StoreName, D: Disk>(
     ensures agrees { IfErr result (λ why. IfDiffers why (λ _ _. ⊥)) }
     ensures clean { IsTrue (D.Disk.is_clean (disk_left result)) → IsHonest log }
 {
-    let mut lines = Lines::new(alloc);
-    let pushed = match server.rebased(alloc) {
-        Ok(mark) => lines.push(mark.as_slice()),
-        Err(refused) => Err(refused),
+    let lines = match rebased_line(alloc, server) {
+        Ok(lines) => lines,
+        Err(refused) => {
+            return Err(Unserved::Replay(log, ReplayError::Stopped(Stop::OutOfMemory(refused))));
+        }
     };
-    match pushed {
-        Ok(true) => {}
-        Ok(false) => unreachable!(),
-        Err(refused) => return Err(Unserved::Replay(log, ReplayError::Stopped(refused.into()))),
-    }
     match log.append(lines.as_slice()) {
         Ok(log) => Ok(log),
         Err(AppendFailed::NotKept(log, error)) => Err(Unserved::NotRebased(log, error)),
@@ -74,7 +85,7 @@ fn started<N: StoreName, D: Disk>(
     ensures started { IfOk result (λ log_new. HasStarted rebases server.now.sums log log_new) }
     ensures differs { IfErr result (λ why. IfDiffers why (λ log_new sums. (log_new ≡ log) × (sums ≡ server.now.sums) × (marks_agree sums ≡ false))) }
     ensures crash { IfErr result (λ why. IsTrue (D.Disk.is_clean (disk_unserved why)) → (c : List ℕ) → D.Disk.may_leave (disk_unserved why) c
-        → (start : List ℕ) × Starts rebases server.now.sums start × IsBeforeOrAfter (text_in log) start c) }
+        → (log_text c ≡ text_in log) ⊎ ((start : List ℕ) × Starts rebases server.now.sums start × IsBeforeOrAfter (text_in log) start c)) }
     ensures clean { IsTrue (D.Disk.is_clean (disk_left result)) → IsHonest log }
 {
     if server.is_whole() {
