@@ -96,8 +96,9 @@ class Logs(unittest.TestCase):
         )
         with self.log.open("rb") as script:
             ran = subprocess.run([PROGRAM, "run"], stdin=script, stdout=subprocess.PIPE, check=True)
-        self.assertEqual(len(ran.stdout.splitlines()), len(lines))
-        self.assertEqual(json.loads(ran.stdout.splitlines()[-1]), {"chain": [1], "id": 4, "slot": 1})
+        # The last line is a mark, which is a question.
+        self.assertEqual(len(ran.stdout.splitlines()), len(marked_lines(self.log)))
+        self.assertEqual(json.loads(ran.stdout.splitlines()[-2]), {"chain": [1], "id": 4, "slot": 1})
 
     def test_synced(self) -> None:
         """What makes an entry is on the disk when it is answered, by two syncs. What makes none is not kept."""

@@ -22,7 +22,7 @@ from stores import (
     empty_disk,
     fill_disk,
     limited_program,
-    log_lines,
+    log_lines, marked_lines,
     open_store,
     store_of,
     wait_until,
@@ -404,7 +404,7 @@ class LogsThatFail(InFolder):
             store.prepare("a", "k", "")
             room = refused = 0
             while True:
-                size = len(b"".join(self.lines()))
+                size = len(b"".join(marked_lines(self.log)))
                 resource.prlimit(store.pid, resource.RLIMIT_FSIZE, (size + room, resource.RLIM_INFINITY))
                 before = store.report(), self.lines()
                 try:
@@ -413,7 +413,8 @@ class LogsThatFail(InFolder):
                 except NotKept:
                     self.assertEqual((store.report(), self.lines()), before)
                 room, refused = room + 1, refused + 1
-            self.assertEqual(refused, 1 + len(self.lines()[-1]))
+            # The call's line and its mark.
+            self.assertEqual(refused, 1 + len(b"".join(marked_lines(self.log)[-2:])))
         with store_of(self.log) as store:
             self.assertEqual(store.stat("a", "k").labels, {"x": "1"})
 
