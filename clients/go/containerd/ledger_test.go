@@ -477,7 +477,7 @@ func TestManyFilesInFewLines(t *testing.T) {
 	lines := func() int {
 		text, err := os.ReadFile(filepath.Join(root, LogFile))
 		granted(t, err)
-		return bytes.Count(text, []byte("\n"))
+		return bytes.Count(text, []byte("\n")) - bytes.Count(text, markHead)
 	}
 	before := lines()
 	granted(t, s.Commit(ctx, "base", "k"))

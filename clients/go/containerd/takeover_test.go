@@ -22,6 +22,9 @@ import (
 // The end that a line of version 0.1.0 doesn't have.
 var lineID = regexp.MustCompile(`,"id":[0-9]+}$`)
 
+// The mark behind a call, which a version before didn't make.
+var markHead = []byte(`{"do":"report","lines":`)
+
 // Has a root as a version before has left it: its log has lines alone and no blank behind them, and `format` says so. A
 // root of version 0.1.0 has neither that nor records.
 func toOldForm(t *testing.T, root string, age rootAge) (log string) {
@@ -30,7 +33,9 @@ func toOldForm(t *testing.T, root string, age rootAge) (log string) {
 	granted(t, err)
 	for len(text) > 0 && text[0] == '{' {
 		line, rest, _ := bytes.Cut(text, []byte("\n"))
-		log += string(lineID.ReplaceAll(line, []byte("}"))) + "\n"
+		if !bytes.HasPrefix(line, markHead) {
+			log += string(lineID.ReplaceAll(line, []byte("}"))) + "\n"
+		}
 		text = rest
 	}
 	for _, name := range []string{LogFile, LogFile + "-wal", oldLogFile, formatFile} {
