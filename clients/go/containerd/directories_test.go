@@ -5,6 +5,7 @@ import (
 	"errors"
 	"fmt"
 	"os"
+	"os/exec"
 	"path/filepath"
 	"strings"
 	"testing"
@@ -258,8 +259,8 @@ func TestKeyAfterARefusedCommit(t *testing.T) {
 	}
 }
 
-// A log with one flipped bit, also such that a refused call is granted: no snapshot is served from the directory of
-// another, and no directory goes.
+// A log with one flipped bit is told. Where it is taken as it is, also such that a refused call is granted, no snapshot is
+// served from the directory of another, and no directory goes.
 func TestFlippedBits(t *testing.T) {
 	t.Parallel()
 	root := t.TempDir()
@@ -287,18 +288,26 @@ func TestFlippedBits(t *testing.T) {
 		changed[at] ^= bit
 		granted(t, os.WriteFile(path, changed, 0o600))
 	}
+	// What has no lines that can be read is refused still.
+	rebase := func() error { return exec.Command(program(), "serve", "--log", path, "--rebase").Run() }
 	// The parent `bare` becomes `base`.
 	flip(strings.Index(string(text), "bare")+2, 1)
+	if _, err := New(ctx, Config{Program: program(), Root: root}); !errors.As(err, new(*pibroulez.BadLog)) {
+		t.Errorf("%v, not told", err)
+	}
+	granted(t, rebase())
 	expectMismatch(t, root, []string{"snapshots/2", `"s-a"`, `"s-b"`, "snapshots/3", `"s-c"`}, nil)
 	tried, refused := 0, 0
 	for at := strings.IndexByte(string(text), '\n'); at < len(text); at += 3 {
 		flip(at, 1<<(at%8))
 		tried++
+		_ = rebase()
 		if !isServedRight(t, root, own) {
 			refused++
 		}
 	}
-	if refused < tried/4 {
+	// Two bytes of three are of marks, whatever they are then.
+	if refused < tried/8 {
 		t.Errorf("of %d logs with a flipped bit %d are refused", tried, refused)
 	}
 }
