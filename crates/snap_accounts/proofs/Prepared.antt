@@ -43,7 +43,7 @@ open-most s us cs n accounts = let most = open_count-most s.slots s.records acco
 
 -- a new snapshot is charged, and its slot is taken
 pub accounts_prepared : (s : State) (us vs : List Usage) (cs ds : List ChargeState) (n place slot : ℕ) (key parent : Bytes) (labels : List Label) (rs : List Record)
-    → AreAccounts s us cs n → place < length s.namespaces → has_key place key s.records ≡ false → is_base place parent s.records ≡ true → is_too_deep place parent s.records ≡ false
+    → AreAccounts s us cs n → place < length s.namespaces → has_key place key s.records ≡ false → is_base place parent s.records ≡ true → is_too_deep s.ancestors place parent s.records ≡ false
     → slot < s.slots → slot < max_slots → active_at slot s.records ≡ None → covers (limit_at place s.namespaces) (plus (charge_of place s.records) one) ≡ true
     → rs ≡ with_record (new_record s place key parent labels (Active slot one)) s.records → vs ≡ set us place (plus (charge_of place s.records) one) → ds ≡ set cs slot (record { slot = slot; id = s.next_id; usage = one; issued = true })
     → AreAccounts (record s { records = rs; next_id = s.next_id + 1; entries = s.entries + 1 }) vs ds (n + 1)
@@ -60,15 +60,15 @@ accounts_prepared s us vs cs ds n place slot key parent labels rs accounts insid
 after_tests : {X : Type 0} (p h b d : Bool) (w x y z next : X) → p ≡ true → h ≡ false → b ≡ true → (if p then if h then x else if b then if d then z else next else y else w) ≡ (if d then z else next)
 after_tests p h b d w x y z next e f g = λ i. if e i then if f i then x else if g i then if d then z else next else y else w
 
-module _ (rs : List Record) (key parent : Bytes) (place : ℕ) (present : is_present place parent rs ≡ true) (new : has_key place key rs ≡ false) (base : is_base place parent rs ≡ true) where
+module _ (most : ℕ) (rs : List Record) (key parent : Bytes) (place : ℕ) (present : is_present place parent rs ≡ true) (new : has_key place key rs ≡ false) (base : is_base place parent rs ≡ true) where
   -- the last one is whether it is too deep
-  tested : place_on place key parent rs ≡ (if is_too_deep place parent rs then Err TooDeep else Ok place)
-  tested = after_tests (is_present place parent rs) (has_key place key rs) (is_base place parent rs) (is_too_deep place parent rs) _ _ _ _ _ present new base
+  tested : place_on most place key parent rs ≡ (if is_too_deep most place parent rs then Err TooDeep else Ok place)
+  tested = after_tests (is_present place parent rs) (has_key place key rs) (is_base place parent rs) (is_too_deep most place parent rs) _ _ _ _ _ present new base
 
-  pub parent-too_deep : is_too_deep place parent rs ≡ true → place_on place key parent rs ≡ Err TooDeep
+  pub parent-too_deep : is_too_deep most place parent rs ≡ true → place_on most place key parent rs ≡ Err TooDeep
   parent-too_deep deep = tested ∙ ap (λ (b : Bool). if b then Err TooDeep else Ok place) deep
 
-  pub parent-fits : is_too_deep place parent rs ≡ false → place_on place key parent rs ≡ Ok place
+  pub parent-fits : is_too_deep most place parent rs ≡ false → place_on most place key parent rs ≡ Ok place
   parent-fits deep = tested ∙ ap (λ (b : Bool). if b then Err TooDeep else Ok place) deep
 
 -- ---- a place and a slot

@@ -10,12 +10,12 @@ use Rattle.snap_call.specs.State.{limit_at, is_base, is_too_deep}
 use Rattle.snap_call.specs.Step.{one}
 use Rattle.snap_accounts.specs.declared.prepare.Vacancy.{Vacancy}
 
--- a snapshot of this key and parent can be added there: the namespace is one of the store's, has no snapshot of the key and the parent as a base that is not too deep, and an id is left
+-- a snapshot of this key and parent can be added there: the namespace is one of the store's, has no snapshot of the key and the parent as a base that is not too deep for the store, and an id is left
 pub record IsSite (s : State) (place : ℕ) (key parent : Bytes) : Type 0 where
   pub inside : place < length s.namespaces
   pub new : has_key place key s.records ≡ false
   pub base : is_base place parent s.records ≡ true
-  pub deep : is_too_deep place parent s.records ≡ false
+  pub deep : is_too_deep s.ancestors place parent s.records ≡ false
   pub numbers : s.next_id ≤ most_number
 
 -- an active one can be: its slot is a free one of the store, and its namespace's limit covers 1/1 more

@@ -5,7 +5,7 @@ ghost use Rattle.snap_record.specs.declared.record.Record.{Record};
 ghost use Rattle.snap_record.specs.declared.kind.Kind.TheVariants.{Committed};
 ghost use Rattle.snap_mount.specs.Mounts.{mounts_of};
 ghost use Rattle.snap_call.specs.Questions.{reply_to};
-ghost use Rattle.snap_call.specs.State.{ancestors, ids_of, is_too_deep};
+ghost use Rattle.snap_call.specs.State.{ancestors, ids_of, is_too_deep, most_ancestors};
 ghost use Rattle.snap_call.specs.Step.{ask, counted, mounts, refused};
 ghost use Rattle.snap_call.specs.Steps.{walk_infos};
 ghost use Rattle.snap_call.specs.declared.reply.Reply.{Reply};
@@ -23,7 +23,7 @@ impl<N: StoreName> Accounts<N> {
     // The snapshot of the namespace that has this key.
     fn find(&self, namespace: &str, key: &str) -> Result<&Record, Refusal>
         ensures found { IfOk result (λ r. (f : Record → Reply) → ask self.now f namespace.now key.now ≡ (counted self.now, f r.now)) }
-        ensures deep { IfOk result (λ r. is_too_deep r.now.namespace r.now.parent self.now.records ≡ false) }
+        ensures deep { IfOk result (λ r. is_too_deep most_ancestors r.now.namespace r.now.parent self.now.records ≡ false) }
         ensures recorded { IfErr result IsRecorded }
         ensures refused { IfErr result (λ why. (f : Record → Reply) → ask self.now f namespace.now key.now ≡ refused self.now why) }
     {
@@ -70,7 +70,7 @@ impl<N: StoreName> Accounts<N> {
         snapshot: &Record,
     ) -> Result<Sequence<Mount>, AllocError>
         requires mounted { kind ≢ Committed }
-        requires deep { is_too_deep snapshot.now.namespace snapshot.now.parent self.now.records ≡ false }
+        requires deep { is_too_deep most_ancestors snapshot.now.namespace snapshot.now.parent self.now.records ≡ false }
         ensures { IfOk result (λ m. m ≡ mounts_of self.now.root kind snapshot.now.id (ids_of (ancestors snapshot.now.namespace snapshot.now.parent self.now.records))) }
     {
         let state = self.state();
@@ -82,7 +82,7 @@ impl<N: StoreName> Accounts<N> {
 
     // The reply with the mounts that show a snapshot, or why it has none.
     fn mounts_or_why(&self, alloc: Global, snapshot: &Record) -> Result<Reply, AllocError>
-        requires { is_too_deep snapshot.now.namespace snapshot.now.parent self.now.records ≡ false }
+        requires { is_too_deep most_ancestors snapshot.now.namespace snapshot.now.parent self.now.records ≡ false }
         ensures reply { IfOk result (λ r. r ≡ mounts self.now snapshot.now) }
         ensures recorded { IfOk result IsInEntry }
     {

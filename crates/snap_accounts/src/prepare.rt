@@ -65,9 +65,9 @@ impl<N: StoreName> Accounts<N> {
 
     // The place, where a snapshot of this key can stand on the parent there, or the first refusal.
     fn place_on(&self, place: usize, key: &str, parent: &str) -> Result<usize, Refusal>
-        ensures ok { IfOk result (λ p. place_on place key.now parent.now self.now.records ≡ Ok p) }
+        ensures ok { IfOk result (λ p. place_on self.now.ancestors place key.now parent.now self.now.records ≡ Ok p) }
         ensures recorded { IfErr result IsRecorded }
-        ensures refused { IfErr result (λ why. place_on place key.now parent.now self.now.records ≡ Err why) }
+        ensures refused { IfErr result (λ why. place_on self.now.ancestors place key.now parent.now self.now.records ≡ Err why) }
     {
         let records = &self.state.records;
         if !records.is_present(place, parent) {
@@ -79,7 +79,7 @@ impl<N: StoreName> Accounts<N> {
         if !records.is_base(place, parent) {
             return Err(Refusal::NotCommitted);
         }
-        if records.is_too_deep(place, parent) {
+        if records.is_too_deep(self.state.ancestors, place, parent) {
             return Err(Refusal::TooDeep);
         }
         Ok(place)
@@ -112,7 +112,7 @@ impl<N: StoreName> Accounts<N> {
     /// The refusals, in this order: `BadArgument` for a key, a parent or labels that are malformed,
     /// or for more than 64 labels; `NoNamespace`; `NotFound` where the namespace has no snapshot of the
     /// parent's name; `AlreadyExists` where it has one of the key; `NotCommitted` where the parent is not
-    /// committed; `TooDeep` where the snapshot would have more than 64 committed ancestors;
+    /// committed; `TooDeep` where the snapshot would have more committed ancestors than the store allows;
     /// `TooManyActives` where all slots of the store are open, whatever namespaces have them; `OverLimit`
     /// with what is free, where 1/1 does not fit; `NumbersSpent` after the id 4,294,967,295. Takes no
     /// memory. The cost grows with the number of slots, of which 64 open ones are one step, with the

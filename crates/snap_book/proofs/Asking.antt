@@ -9,6 +9,7 @@ use Rattle.snap_record.specs.declared.record.Record.{Record}
 use Rattle.snap_call.specs.declared.refusal.Refusal.TheVariants.{NoNamespace, NotFound}
 use Rattle.snap_call.specs.declared.state.State.{State}
 use Rattle.snap_call.specs.Good.{Good}
+use Rattle.snap_call.proofs.Keeping.{good_chains}
 use Rattle.snap_call.specs.Records.{is_named, record_at}
 use Rattle.snap_call.specs.State.{chain_from, limit_at, place_of, most_ancestors}
 use Rattle.snap_call.proofs.Lists.{record_at-all}
@@ -46,7 +47,7 @@ found-record s namespace key r found = at (place_of namespace s.namespaces) foun
 pub chained : (s : State) → Good s → (namespace key : Bytes) (r : Record) → found_of s namespace key ≡ Ok r → IsSome (chain_from most_ancestors s.records r.namespace r.parent)
 chained s good namespace key r found =
     let here = found-record s namespace key r found in
-    record_at-all (λ t. IsSome (chain_from most_ancestors s.records t.namespace t.parent)) here.0 key s.records r here.1 good.chains
+    record_at-all (λ t. IsSome (chain_from most_ancestors s.records t.namespace t.parent)) here.0 key s.records r here.1 (good_chains s good)
 
 pub found-small : (s : State) → Good s → (namespace key : Bytes) (r : Record) → found_of s namespace key ≡ Ok r → ((usage_of r.content).blocks ≤ 2 ^ 40) × ((usage_of r.content).inodes ≤ 2 ^ 40)
 found-small s good namespace key r found =

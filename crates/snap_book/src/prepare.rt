@@ -65,7 +65,7 @@ fn reply_to<N: StoreName>(
     parent: &str,
     found: Result<Vacancy, Refusal>,
 ) -> Result<(Reply, Sequence<Shared>), AllocError>
-    requires { IfOk found (λ v. (is_too_deep v.place parent.now accounts.now.records ≡ false) × (accounts.now.next_id ≤ most_number)) }
+    requires { IfOk found (λ v. (is_too_deep accounts.now.ancestors v.place parent.now accounts.now.records ≡ false) × (accounts.now.next_id ≤ most_number)) }
     ensures reply { IfOk result (λ p. p.0 ≡ prepare_reply found accounts.now parent.now) }
     ensures lowers { IfOk result (λ p. IfOk found (λ v. p.1 ≡ layers_of (ancestors v.place parent.now accounts.now.records))) }
 {
@@ -131,7 +131,7 @@ impl<N: StoreName> Book<N> {
     /// key, a parent or labels that are malformed, or for more than 64 labels; `NoNamespace`;
     /// `NotFound` where the namespace has no snapshot of the parent's name; `AlreadyExists` where it has
     /// one of the key; `NotCommitted` where the parent is not committed; `TooDeep` where the snapshot
-    /// would have more than 64 committed ancestors; `TooManyActives` where all slots of the store are open;
+    /// would have more committed ancestors than the store allows; `TooManyActives` where all slots of the store are open;
     /// `OverLimit` with what is free; `NumbersSpent` after the id 4,294,967,295. At last `OutOfMemory`
     /// where memory for the snapshot is refused. `JournalFull` and `OutOfMemory` leave the book as it
     /// was, the others all but the journal. Its cost grows with the logarithm of the number of

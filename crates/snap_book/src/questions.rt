@@ -17,7 +17,7 @@ use std::alloc::AllocError;
 
 // What the ancestors of a snapshot on the parent are charged, where there are at most so many.
 fn usage_above(records: &Records, most: u64, place: usize, parent: &str) -> Usage
-    requires few { most ≤ 64 }
+    requires few { most ≤ 500 }
     requires all { IsSome (chain_from most records.now place parent.now) }
     requires small { AreSmall records.now place }
     ensures usage { result ≡ usage_of_all (unwrap_or (chain_from most records.now place parent.now) []) }

@@ -66,7 +66,7 @@ impl<N: StoreName> Book<N> {
     /// key, a parent or labels that are malformed, or for more than 64 labels; `NoNamespace`;
     /// `NotFound` where the namespace has no snapshot of the parent's name; `AlreadyExists` where it has
     /// one of the key; `NotCommitted` where the parent is not committed; `TooDeep` where the snapshot
-    /// would have more than 64 committed ancestors; `NumbersSpent` after the id 4,294,967,295. At last
+    /// would have more committed ancestors than the store allows; `NumbersSpent` after the id 4,294,967,295. At last
     /// `OutOfMemory` where memory for the snapshot, for the answer or for the entry is refused.
     /// `JournalFull` and `OutOfMemory` leave the book as it was, the others all but the journal.
     ///

@@ -189,8 +189,8 @@ module _ (rs ts : List Record) (alike : AreAlike rs ts) where
   pub alike-chain : (n place : ℕ) (p : Bytes) → IsSome (chain_from n rs place p) → IsSome (chain_from n ts place p)
   alike-chain n place p some = alike-is_chain n place p ∙ some
 
-  pub alike-some_chain : (r : Record) → IsSome (chain rs r) → IsSome (chain ts r)
-  alike-some_chain r some = alike-chain most_ancestors r.namespace r.parent some
+  pub alike-some_chain : (most : ℕ) (r : Record) → IsSome (chain most rs r) → IsSome (chain most ts r)
+  alike-some_chain most r some = alike-chain most r.namespace r.parent some
 
   pub alike-layers_of : layers_of ts ≡ layers_of rs
   alike-layers_of = same_of layers_of layers_of-bare

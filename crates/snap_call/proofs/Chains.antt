@@ -1,5 +1,5 @@
 -- What stands on committed records stands while they do: parents, leases and chains.
-use Rattle.std.proofs.Common.{◌≡◌, ℕ, zero, suc, Bool, true, false, true≢false, List, [], ◌∷◌, Option, Some, None, IsSome, refl, sym, ap, ◌∙◌, subst}
+use Rattle.std.proofs.Common.{◌≡◌, ℕ, zero, suc, ◌≤◌, Bool, true, false, true≢false, List, [], ◌∷◌, Option, Some, None, IsSome, refl, sym, ap, ◌∙◌, subst, arith}
 use Rattle.std.specs.List.{AllByRecursion, list_any}
 use Rattle.std.specs.Option.{option_map, is_some}
 use Rattle.std.specs.Prelude.{bytes_eq, ◌==◌, ◌&&◌, option_and_then, unwrap_or, IsSomeAnd}
@@ -22,9 +22,9 @@ HasParent rs r = is_base r.namespace r.parent rs ≡ true
 abbrev pub NamesStand : List Record → Option ℕ → List Bytes → Type 0
 NamesStand rs o names = IsSomeAnd o (λ place. AllByRecursion (λ name. IsSome (committed_at place name rs)) names)
 
--- the committed ancestors of a snapshot
-abbrev pub chain : List Record → Record → Option (List Record)
-chain rs r = chain_from most_ancestors rs r.namespace r.parent
+-- the committed ancestors of a snapshot, where they are no more than so many
+abbrev pub chain : ℕ → List Record → Record → Option (List Record)
+chain most rs r = chain_from most rs r.namespace r.parent
 
 -- the record before those of the next chain
 abbrev pub chain_over : Option Record → (Record → Option (List Record)) → Option (List Record)
@@ -181,8 +181,8 @@ module _ (P : ℕ → Bytes → Type 0) (rs ts : List Record) (keeps : KeepsFor 
       by None e is = absurd (true≢false (sym is))
       by (Some c) e is = ap is_some (keeps-chain_from n place p c m e)
 
-  pub keeps-some_chain : (r : Record) → OnParent P r.namespace r.parent → IsSome (chain rs r) → IsSome (chain ts r)
-  keeps-some_chain r m some = some_chain most_ancestors r.namespace r.parent m some
+  pub keeps-some_chain : (most : ℕ) (r : Record) → OnParent P r.namespace r.parent → IsSome (chain most rs r) → IsSome (chain most ts r)
+  keeps-some_chain most r m some = some_chain most r.namespace r.parent m some
 
   -- the ancestors of a snapshot that has a chain
   pub keeps-ancestors : (place : ℕ) (p : Bytes) → OnParent P place p → IsSome (chain_from most_ancestors rs place p) → ancestors place p ts ≡ ancestors place p rs
@@ -195,8 +195,36 @@ module _ (P : ℕ → Bytes → Type 0) (rs ts : List Record) (keeps : KeepsFor 
 -- ---- a parent that was tested
 
 -- there is a chain from it upwards
-pub chain-found : (rs : List Record) (place : ℕ) (p : Bytes) → is_too_deep place p rs ≡ false → IsSome (chain_from most_ancestors rs place p)
-chain-found rs place p e = not-false (is_some (chain_from most_ancestors rs place p)) e
+pub chain-found : (most : ℕ) (rs : List Record) (place : ℕ) (p : Bytes) → is_too_deep most place p rs ≡ false → IsSome (chain_from most rs place p)
+chain-found most rs place p e = not-false (is_some (chain_from most rs place p)) e
+
+-- ---- a chain that fits a limit, and those above it
+
+chain-within : (m n : ℕ) (rs : List Record) (place : ℕ) (p : Bytes) (c : List Record) → m ≤ n → chain_from m rs place p ≡ Some c → chain_from n rs place p ≡ Some c
+chain-within m n rs place [] c le e = e
+chain-within zero n rs place (b ∷ bs) c le e = absurd (none_some c e)
+chain-within (suc m) zero rs place (b ∷ bs) c le e = absurd (omega (arith, le))
+chain-within (suc m) (suc n) rs place (b ∷ bs) c le e = by (committed_at place (b ∷ bs) rs) e (λ r d. chain-within m n rs place r.parent d (omega (arith, le)))
+  where
+    by : (o : Option Record) → chain_over o (λ r. chain_from m rs place r.parent) ≡ Some c → ((r : Record) (d : List Record) → chain_from m rs place r.parent ≡ Some d → chain_from n rs place r.parent ≡ Some d)
+        → chain_over o (λ r. chain_from n rs place r.parent) ≡ Some c
+    by None found next = absurd (none_some c found)
+    by (Some r) found next = over (chain_from m rs place r.parent) refl found
+      where
+        over : (o : Option (List Record)) → chain_from m rs place r.parent ≡ o → option_map (λ d. r ∷ d) o ≡ Some c → option_map (λ d. r ∷ d) (chain_from n rs place r.parent) ≡ Some c
+        over None h made = absurd (none_some c made)
+        over (Some d) h made = ap (option_map (λ l. r ∷ l)) (next r d h) ∙ made
+
+-- a chain of the one limit is one of a greater
+pub some-within : (m n : ℕ) (rs : List Record) (place : ℕ) (p : Bytes) → m ≤ n → IsSome (chain_from m rs place p) → IsSome (chain_from n rs place p)
+some-within m n rs place p le some = by (chain_from m rs place p) refl some
+  where
+    by : (o : Option (List Record)) → chain_from m rs place p ≡ o → IsSome o → IsSome (chain_from n rs place p)
+    by None e is = absurd (true≢false (sym is))
+    by (Some c) e is = ap is_some (chain-within m n rs place p c le e)
+
+pub all-within : (m n : ℕ) (rs us : List Record) → m ≤ n → AllByRecursion (λ r. IsSome (chain m rs r)) us → AllByRecursion (λ r. IsSome (chain n rs r)) us
+all-within m n rs us le all = all-map (λ r. IsSome (chain m rs r)) (λ r. IsSome (chain n rs r)) (λ r some. some-within m n rs r.namespace r.parent le some) us all
 
 -- ---- a chain, record by record
 

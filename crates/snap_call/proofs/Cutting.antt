@@ -262,7 +262,7 @@ module _ (s : State) (short : HasShortNames s) where
       → unless_refused s (place_for s (cut 255 name) (cut 1024 key) (cut 1024 parent) (kept_labels labels)) (next (cut 1024 key) (cut 1024 parent) (kept_labels labels))
       ≡ unless_refused s (place_for s name key parent labels) (next key parent labels)
   made name key parent labels next =
-      ap (λ o. unless_refused s (if is_key (cut 1024 key) && is_parent (cut 1024 parent) && are_labels (kept_labels labels) then option_map_or (λ place. place_on place (cut 1024 key) (cut 1024 parent) s.records) o (Err NoNamespace) else Err BadArgument) (next (cut 1024 key) (cut 1024 parent) (kept_labels labels))) (same_place name)
+      ap (λ o. unless_refused s (if is_key (cut 1024 key) && is_parent (cut 1024 parent) && are_labels (kept_labels labels) then option_map_or (λ place. place_on s.ancestors place (cut 1024 key) (cut 1024 parent) s.records) o (Err NoNamespace) else Err BadArgument) (next (cut 1024 key) (cut 1024 parent) (kept_labels labels))) (same_place name)
       ∙ by (both (λ p. is_key p.0 && is_parent p.1) are_labels (λ p. (cut 1024 p.0, cut 1024 p.1)) kept_labels (key, parent) labels (both is_key is_parent (cut 1024) (cut 1024) key parent (key_stays key) (parent_stays parent)) (labels_stay labels))
     where
       by : Stays {A = (Bytes × Bytes) × List Label} (λ p. is_key p.0.0 && is_parent p.0.1 && are_labels p.1) (λ p. ((cut 1024 p.0.0, cut 1024 p.0.1), kept_labels p.1)) ((key, parent), labels)
@@ -270,8 +270,8 @@ module _ (s : State) (short : HasShortNames s) where
           ≡ unless_refused s (place_for s name key parent labels) (next key parent labels)
       by (inl e) = ap (λ p. unless_refused s (place_for s name p.0.0 p.0.1 p.1) (next p.0.0 p.0.1 p.1)) e
       by (inr e) =
-          ap (λ b. unless_refused s (if b then option_map_or (λ place. place_on place (cut 1024 key) (cut 1024 parent) s.records) (place_of name s.namespaces) (Err NoNamespace) else Err BadArgument) (next (cut 1024 key) (cut 1024 parent) (kept_labels labels))) e.1
-          ∙ sym (ap (λ b. unless_refused s (if b then option_map_or (λ place. place_on place key parent s.records) (place_of name s.namespaces) (Err NoNamespace) else Err BadArgument) (next key parent labels)) e.0)
+          ap (λ b. unless_refused s (if b then option_map_or (λ place. place_on s.ancestors place (cut 1024 key) (cut 1024 parent) s.records) (place_of name s.namespaces) (Err NoNamespace) else Err BadArgument) (next (cut 1024 key) (cut 1024 parent) (kept_labels labels))) e.1
+          ∙ sym (ap (λ b. unless_refused s (if b then option_map_or (λ place. place_on s.ancestors place key parent s.records) (place_of name s.namespaces) (Err NoNamespace) else Err BadArgument) (next key parent labels)) e.0)
 
   -- whose labels go without its namespace
   made_new : (name key parent : Bytes) (labels : List Label) (next : Bytes → Bytes → List Label → ℕ → State × Reply)
@@ -284,7 +284,7 @@ module _ (s : State) (short : HasShortNames s) where
 
       out : (given : List Label) → place_of name s.namespaces ≡ None → are_labels given ≡ true → unless_refused s (place_for s name key parent given) (next key parent given) ≡ refused s (if is_key key && is_parent parent && true then NoNamespace else BadArgument)
       out given none are =
-          ap (λ o. unless_refused s (if is_key key && is_parent parent && are_labels given then option_map_or (λ place. place_on place key parent s.records) o (Err NoNamespace) else Err BadArgument) (next key parent given)) none
+          ap (λ o. unless_refused s (if is_key key && is_parent parent && are_labels given then option_map_or (λ place. place_on s.ancestors place key parent s.records) o (Err NoNamespace) else Err BadArgument) (next key parent given)) none
           ∙ (ap (λ b. unless_refused s (if is_key key && is_parent parent && b then Err NoNamespace else Err BadArgument) (next key parent given)) are
           ∙ either (is_key key && is_parent parent && true))
         where

@@ -1,8 +1,8 @@
 -- What each change of the state keeps true of it.
-use Rattle.std.proofs.Common.{◌≡◌, ◌≢◌, ℕ, ◌+◌, ◌<◌, Bool, true, false, true≢false, eqb, get_or, List, [], ◌∷◌, length, Option, Some, None, IsSome, eq-eqb, refl, sym, ap, ◌∙◌, subst, inl, inr, arith}
+use Rattle.std.proofs.Common.{◌≡◌, ◌≢◌, ℕ, ◌+◌, ◌<◌, ◌≤◌, Bool, true, false, true≢false, eqb, get_or, List, [], ◌∷◌, length, Option, Some, None, IsSome, eq-eqb, refl, sym, ap, ◌∙◌, subst, inl, inr, arith}
 use Rattle.std.specs.List.{AllByRecursion}
 use Rattle.std.specs.Option.{is_some}
-use Rattle.std.specs.Prelude.{◌&&◌, ◌==◌, bytes_eq, nat_le}
+use Rattle.std.specs.Prelude.{◌&&◌, ◌==◌, bytes_eq, nat_le, not}
 use Rattle.std.proofs.lemmas.Bool.{and_parts, eqb-true, false_from_ne_true, cases_eq, leb-true}
 use Rattle.std.proofs.lemmas.List.Quantifiers.{position-Some}
 use Rattle.std.proofs.lemmas.Slice.Eq.{bytes_eq-Decides}
@@ -21,14 +21,14 @@ use Rattle.snap_record.specs.declared.record.Record.{Record}
 use Rattle.snap_call.specs.declared.config.Namespace.{Namespace}
 use Rattle.snap_call.specs.declared.state.State.{State}
 use Rattle.snap_call.specs.Records.{has_key, has_children, has_slot, is_named, is_slot, record_at, committed_at, active_at, charge_of, with_record, without_slot, without_key, recharged, relabelled, committed_as, HasLowSlot, AreApart}
-use Rattle.snap_call.specs.State.{place_of, name_at, limit_at, is_base, is_too_deep, ancestors, layers_of, or_empty, shown_layers}
+use Rattle.snap_call.specs.State.{place_of, name_at, limit_at, is_base, is_too_deep, ancestors, layers_of, most_ancestors, or_empty, shown_layers}
 use Rattle.snap_call.specs.Good.{IsGuarding, IsUsageCounted, IsShown, Good}
 use Rattle.snap_call.specs.Step.{counted, one, prepared, committed, leases_after, added, viewed, removed_at, new_record}
 use Rattle.snap_call.proofs.Leasing.{place_of-name_at, guarding-with_name}
 use Rattle.snap_call.proofs.Lengths.{length-with_record, length-without, length-without_found, length-recharged, length-relabelled}
 use Rattle.snap_call.proofs.Lists.{all-map, all-both, committed-from, find-with_record_own, find-none, none-passes, record_at-is_named, same_slot, active_at-all, all-with_record, pairwise-with_record, all-without, pairwise-without, all-beside, all-recharged, pairwise-recharged}
 use Rattle.snap_call.proofs.InOrder.{sorted-with_record, sorted-without, sorted-recharged, has_key-without}
-use Rattle.snap_call.proofs.Chains.{HasParent, chain, Keeps, KeepsFor, Every, every, OnParent, AreOn, all_on, IsOther, Keeps-after, Keeps-with_record, Keeps-without_slot, Keeps-recharged, on_other, keeps-without_key, keeps-HasParent, keeps-NamesStand, keeps-some_chain, keeps-ancestors, chain-found}
+use Rattle.snap_call.proofs.Chains.{HasParent, chain, Keeps, KeepsFor, Every, every, OnParent, AreOn, all_on, IsOther, Keeps-after, Keeps-with_record, Keeps-without_slot, Keeps-recharged, on_other, keeps-without_key, keeps-HasParent, keeps-NamesStand, keeps-some_chain, keeps-ancestors, chain-found, some-within, all-within}
 use Rattle.snap_call.proofs.Sums.{charge_with, charge_of-with_record_own, charge_of-with_record_other, charge_of-covers, charge_of-without_own, charge_of-without_other, charge_of-recharged_own, charge_of-recharged_other, charge_of-committed_own, charge_of-committed_other}
 use Rattle.snap_call.proofs.Alike.{AreAlike, bare-relabelled, all-relabelled, pairwise-relabelled, sorted-relabelled, alike-HasParent, alike-IsGuarding, alike-charge_of, alike-layers, alike-some_chain}
 
@@ -81,17 +81,17 @@ module _ (P : ℕ → Bytes → Type 0) (rs ts : List Record) (keeps : KeepsFor 
       all-map (λ r. OnParent P r.namespace r.parent × HasParent rs r) (HasParent ts) (λ r h. keeps-HasParent P rs ts keeps r h.0 h.1)
       us (all-both (λ r. OnParent P r.namespace r.parent) (HasParent rs) us on all)
 
-  pub chains_on : (us : List Record) → AreOn P us → AllByRecursion (λ r. IsSome (chain rs r)) us → AllByRecursion (λ r. IsSome (chain ts r)) us
-  chains_on us on all =
-      all-map (λ r. OnParent P r.namespace r.parent × IsSome (chain rs r)) (λ r. IsSome (chain ts r)) (λ r h. keeps-some_chain P rs ts keeps r h.0 h.1)
-      us (all-both (λ r. OnParent P r.namespace r.parent) (λ r. IsSome (chain rs r)) us on all)
+  pub chains_on : (most : ℕ) (us : List Record) → AreOn P us → AllByRecursion (λ r. IsSome (chain most rs r)) us → AllByRecursion (λ r. IsSome (chain most ts r)) us
+  chains_on most us on all =
+      all-map (λ r. OnParent P r.namespace r.parent × IsSome (chain most rs r)) (λ r. IsSome (chain most ts r)) (λ r h. keeps-some_chain P rs ts keeps most r h.0 h.1)
+      us (all-both (λ r. OnParent P r.namespace r.parent) (λ r. IsSome (chain most rs r)) us on all)
 
   -- what views show
-  pub shown_on : (us : List Record) → AreOn P us → AllByRecursion (λ r. IsSome (chain rs r)) us → AllByRecursion (λ r. IsShown rs r.namespace r.parent r.content) us → AllByRecursion (λ r. IsShown ts r.namespace r.parent r.content) us
+  pub shown_on : (us : List Record) → AreOn P us → AllByRecursion (λ r. IsSome (chain most_ancestors rs r)) us → AllByRecursion (λ r. IsShown rs r.namespace r.parent r.content) us → AllByRecursion (λ r. IsShown ts r.namespace r.parent r.content) us
   shown_on us on chained all =
-      all-map (λ r. OnParent P r.namespace r.parent × (IsSome (chain rs r) × IsShown rs r.namespace r.parent r.content)) (λ r. IsShown ts r.namespace r.parent r.content)
+      all-map (λ r. OnParent P r.namespace r.parent × (IsSome (chain most_ancestors rs r) × IsShown rs r.namespace r.parent r.content)) (λ r. IsShown ts r.namespace r.parent r.content)
       (λ r h. shown_anew rs ts r.namespace r.parent r.content (ap layers_of (keeps-ancestors P rs ts keeps r.namespace r.parent h.0 h.1.0)) h.1.1)
-      us (all-both (λ r. OnParent P r.namespace r.parent) (λ r. IsSome (chain rs r) × IsShown rs r.namespace r.parent r.content) us on (all-both (λ r. IsSome (chain rs r)) (λ r. IsShown rs r.namespace r.parent r.content) us chained all))
+      us (all-both (λ r. OnParent P r.namespace r.parent) (λ r. IsSome (chain most_ancestors rs r) × IsShown rs r.namespace r.parent r.content) us on (all-both (λ r. IsSome (chain most_ancestors rs r)) (λ r. IsShown rs r.namespace r.parent r.content) us chained all))
 
 -- the names of a lease, where it has a place, are in the set
 abbrev pub AreNamed : (ℕ → Bytes → Type 0) → List Namespace → Lease → Type 0
@@ -118,11 +118,28 @@ module _ (ns : List Namespace) (rs ts : List Record) (keeps : Keeps rs ts) where
   pub stand_leases : (ls : List Lease) → AllByRecursion (IsGuarding ns rs) ls → AllByRecursion (IsGuarding ns ts) ls
   stand_leases ls all = leases_on Every rs ts (every rs ts keeps) ns ls (every_lease ns ls) all
 
-  pub stand_chains : (us : List Record) → AllByRecursion (λ r. IsSome (chain rs r)) us → AllByRecursion (λ r. IsSome (chain ts r)) us
-  stand_chains us all = chains_on Every rs ts (every rs ts keeps) us (all_on us) all
+  pub stand_chains : (most : ℕ) (us : List Record) → AllByRecursion (λ r. IsSome (chain most rs r)) us → AllByRecursion (λ r. IsSome (chain most ts r)) us
+  stand_chains most us all = chains_on Every rs ts (every rs ts keeps) most us (all_on us) all
 
-  pub stand_shown : (us : List Record) → AllByRecursion (λ r. IsSome (chain rs r)) us → AllByRecursion (λ r. IsShown rs r.namespace r.parent r.content) us → AllByRecursion (λ r. IsShown ts r.namespace r.parent r.content) us
+  pub stand_shown : (us : List Record) → AllByRecursion (λ r. IsSome (chain most_ancestors rs r)) us → AllByRecursion (λ r. IsShown rs r.namespace r.parent r.content) us → AllByRecursion (λ r. IsShown ts r.namespace r.parent r.content) us
   stand_shown us chained all = shown_on Every rs ts (every rs ts keeps) us (all_on us) chained all
+
+-- ---- chains that the store allows
+
+-- those of a store are within the most that one can allow
+pub most-within : (s : State) → Good s → s.ancestors ≤ most_ancestors
+most-within s good = let few : nat_le s.ancestors most_ancestors ≡ true = (and_parts (nat_le 1 s.ancestors) (nat_le s.ancestors most_ancestors) good.most).1 in leb-true s.ancestors most_ancestors few
+
+pub all_deep : (s : State) → Good s → (us : List Record) → AllByRecursion (λ r. IsSome (chain s.ancestors s.records r)) us → AllByRecursion (λ r. IsSome (chain most_ancestors s.records r)) us
+all_deep s good us all = all-within s.ancestors most_ancestors s.records us (most-within s good) all
+
+-- each snapshot has a chain
+pub good_chains : (s : State) → Good s → AllByRecursion (λ r. IsSome (chain most_ancestors s.records r)) s.records
+good_chains s good = all_deep s good s.records good.chains
+
+-- so has a parent that isn't too deep
+pub good_deep : (s : State) → Good s → (place : ℕ) (p : Bytes) → is_too_deep s.ancestors place p s.records ≡ false → is_too_deep most_ancestors place p s.records ≡ false
+good_deep s good place p e = ap not (some-within s.ancestors most_ancestors s.records place p (most-within s good) (chain-found s.ancestors s.records place p e))
 
 -- ---- the counters alone
 
@@ -147,6 +164,7 @@ good_counters s m n good = record {
   open_slots = good.open_slots;
   shown = good.shown;
   layers = good.layers;
+  most = good.most;
   chains = good.chains;
 }
 
@@ -157,7 +175,7 @@ good_counted s good = good_counters s s.sessions (s.entries + 1) good
 
 -- of a free key, on a base that is there, with the next id, in no slot of another, and within the limit
 pub good_added : (s : State) (r : Record) → Good s → r.namespace < length s.namespaces → has_key r.namespace r.key s.records ≡ false
-    → is_base r.namespace r.parent s.records ≡ true → is_too_deep r.namespace r.parent s.records ≡ false → r.id ≡ s.next_id → IsUsageCounted r.content → HasLowSlot s.slots r.content → IsShown s.records r.namespace r.parent r.content
+    → is_base r.namespace r.parent s.records ≡ true → is_too_deep s.ancestors r.namespace r.parent s.records ≡ false → r.id ≡ s.next_id → IsUsageCounted r.content → HasLowSlot s.slots r.content → IsShown s.records r.namespace r.parent r.content
     → AllByRecursion (AreApart r) s.records → AllByRecursion (λ t. AreApart t r) s.records
     → Covers (limit_at r.namespace s.namespaces) (plus (charge_of r.namespace s.records) (usage_of r.content)) → Good (added s r)
 good_added s r good low free base deep next count few shown apart beside room = record {
@@ -181,9 +199,10 @@ good_added s r good low free base deep next count few shown apart beside room = 
   few_slots = good.few_slots;
   slots = pairwise-with_record r AreApart rs apart beside good.slots;
   open_slots = all-with_record r (λ t. HasLowSlot s.slots t.content) rs few good.open_slots;
-  shown = stand_shown ns rs ts keeps ts chained (all-with_record r (λ t. IsShown rs t.namespace t.parent t.content) rs shown good.shown);
+  shown = stand_shown ns rs ts keeps ts (all_deep s good ts chained) (all-with_record r (λ t. IsShown rs t.namespace t.parent t.content) rs shown good.shown);
   layers = good.layers;
-  chains = stand_chains ns rs ts keeps ts chained;
+  most = good.most;
+  chains = stand_chains ns rs ts keeps s.ancestors ts chained;
 }
   where
     ns : List Namespace
@@ -198,11 +217,11 @@ good_added s r good low free base deep next count few shown apart beside room = 
     keeps : Keeps rs ts
     keeps = Keeps-with_record r rs free
 
-    chained : AllByRecursion (λ t. IsSome (chain rs t)) ts
-    chained = all-with_record r (λ t. IsSome (chain rs t)) rs (chain-found rs r.namespace r.parent deep) good.chains
+    chained : AllByRecursion (λ t. IsSome (chain s.ancestors rs t)) ts
+    chained = all-with_record r (λ t. IsSome (chain s.ancestors rs t)) rs (chain-found s.ancestors rs r.namespace r.parent deep) good.chains
 
 pub good_prepared : (s : State) (place : ℕ) (key parent : Bytes) (labels : List Label) (slot : ℕ) → Good s → place < length s.namespaces → has_key place key s.records ≡ false
-    → is_base place parent s.records ≡ true → is_too_deep place parent s.records ≡ false → slot < s.slots → active_at slot s.records ≡ None
+    → is_base place parent s.records ≡ true → is_too_deep s.ancestors place parent s.records ≡ false → slot < s.slots → active_at slot s.records ≡ None
     → Covers (limit_at place s.namespaces) (plus (charge_of place s.records) one) → Good (prepared s place key parent labels slot).0
 good_prepared s place key parent labels slot good low free base deep few none room =
     good_added s r good low free base deep refl tt few tt
@@ -222,7 +241,7 @@ nothing_more limit total a = record { blocks = omega (arith, a.blocks); inodes =
 
 -- a view is in no slot, and is charged nothing
 pub good_view_added : (s : State) (r : Record) → Good s → r.content ≡ View (shown_layers r.namespace r.parent s.records) → r.id ≡ s.next_id → r.namespace < length s.namespaces → has_key r.namespace r.key s.records ≡ false
-    → is_base r.namespace r.parent s.records ≡ true → is_too_deep r.namespace r.parent s.records ≡ false → Good (added s r)
+    → is_base r.namespace r.parent s.records ≡ true → is_too_deep s.ancestors r.namespace r.parent s.records ≡ false → Good (added s r)
 good_view_added s r good is next low free base deep =
     good_added s r good low free base deep next (subst IsUsageCounted (sym is) tt) (subst (HasLowSlot s.slots) (sym is) tt) (subst (IsShown s.records r.namespace r.parent) (sym is) refl)
     (all-map (λ t. HasLowSlot s.slots t.content) (AreApart r) (λ t h k held. absurd (true≢false (sym held ∙ ap (has_slot k) is))) s.records good.open_slots)
@@ -230,7 +249,7 @@ good_view_added s r good is next low free base deep =
     (subst (λ (u : Usage). Covers (limit_at r.namespace s.namespaces) (plus (charge_of r.namespace s.records) u)) (sym (ap usage_of is)) (nothing_more (limit_at r.namespace s.namespaces) (charge_of r.namespace s.records) (good.within r.namespace low)))
 
 pub good_viewed : (s : State) (place : ℕ) (key parent : Bytes) (labels : List Label) → Good s → place < length s.namespaces → has_key place key s.records ≡ false
-    → is_base place parent s.records ≡ true → is_too_deep place parent s.records ≡ false → Good (viewed s place key parent labels).0
+    → is_base place parent s.records ≡ true → is_too_deep s.ancestors place parent s.records ≡ false → Good (viewed s place key parent labels).0
 good_viewed s place key parent labels good low free base deep = good_view_added s (new_record s place key parent labels (View (shown_layers place parent s.records))) good refl refl low free base deep
 
 -- ---- an active snapshot charged anew
@@ -264,9 +283,10 @@ module _ (slot : ℕ) (to : Usage) where
         (λ t u is h k out. same_slot slot k to u.content is ∙ h k out)
         good.slots;
     open_slots = all-recharged slot to (λ t. HasLowSlot s.slots t.content) rs (λ t is h. place_anew s.slots t.content is h) good.open_slots;
-    shown = stand_shown ns rs ts keeps ts chained (all-recharged slot to (λ t. IsShown rs t.namespace t.parent t.content) rs (λ t is h. tt) good.shown);
+    shown = stand_shown ns rs ts keeps ts (all_deep s good ts chained) (all-recharged slot to (λ t. IsShown rs t.namespace t.parent t.content) rs (λ t is h. tt) good.shown);
     layers = good.layers;
-    chains = stand_chains ns rs ts keeps ts chained;
+    most = good.most;
+    chains = stand_chains ns rs ts keeps s.ancestors ts chained;
   }
     where
       ns : List Namespace
@@ -281,8 +301,8 @@ module _ (slot : ℕ) (to : Usage) where
       keeps : Keeps rs ts
       keeps = Keeps-recharged slot to rs
 
-      chained : AllByRecursion (λ t. IsSome (chain rs t)) ts
-      chained = all-recharged slot to (λ t. IsSome (chain rs t)) rs (λ t is h. h) good.chains
+      chained : AllByRecursion (λ t. IsSome (chain s.ancestors rs t)) ts
+      chained = all-recharged slot to (λ t. IsSome (chain s.ancestors rs t)) rs (λ t is h. h) good.chains
 
 -- the charge of a record gives way to one that it covers
 pub covered : (s : State) (slot : ℕ) (r : Record) (to : Usage) → Good s → active_at slot s.records ≡ Some r → Covers (usage_of r.content) to → Covers (limit_at r.namespace s.namespaces) (charge_with r to s.records)
@@ -314,9 +334,10 @@ good_discarded s slot r good e = record {
   few_slots = good.few_slots;
   slots = pairwise-without (is_slot slot) AreApart rs good.slots;
   open_slots = all-without (is_slot slot) (λ t. HasLowSlot s.slots t.content) rs good.open_slots;
-  shown = stand_shown ns rs ts keeps ts chained (all-without (is_slot slot) (λ t. IsShown rs t.namespace t.parent t.content) rs good.shown);
+  shown = stand_shown ns rs ts keeps ts (all_deep s good ts chained) (all-without (is_slot slot) (λ t. IsShown rs t.namespace t.parent t.content) rs good.shown);
   layers = good.layers;
-  chains = stand_chains ns rs ts keeps ts chained;
+  most = good.most;
+  chains = stand_chains ns rs ts keeps s.ancestors ts chained;
 }
   where
     ns : List Namespace
@@ -331,8 +352,8 @@ good_discarded s slot r good e = record {
     keeps : Keeps rs ts
     keeps = Keeps-without_slot slot rs
 
-    chained : AllByRecursion (λ t. IsSome (chain rs t)) ts
-    chained = all-without (is_slot slot) (λ t. IsSome (chain rs t)) rs good.chains
+    chained : AllByRecursion (λ t. IsSome (chain s.ancestors rs t)) ts
+    chained = all-without (is_slot slot) (λ t. IsSome (chain s.ancestors rs t)) rs good.chains
 
     low : r.namespace < length ns
     low = active_at-all (λ t. t.namespace < length ns) slot rs r e good.placed
@@ -407,9 +428,10 @@ module _ (s : State) (place : ℕ) (key : Bytes) (r : Record) (good : Good s) (e
     few_slots = good.few_slots;
     slots = pairwise-without p AreApart rs good.slots;
     open_slots = all-without p (λ t. HasLowSlot s.slots t.content) rs good.open_slots;
-    shown = shown_on P rs ts keeps ts on chained (all-without p (λ t. IsShown rs t.namespace t.parent t.content) rs good.shown);
+    shown = shown_on P rs ts keeps ts on (all_deep s good ts chained) (all-without p (λ t. IsShown rs t.namespace t.parent t.content) rs good.shown);
     layers = good.layers;
-    chains = chains_on P rs ts keeps ts on chained;
+    most = good.most;
+    chains = chains_on P rs ts keeps s.ancestors ts on chained;
   }
     where
       P : ℕ → Bytes → Type 0
@@ -433,8 +455,8 @@ module _ (s : State) (place : ℕ) (key : Bytes) (r : Record) (good : Good s) (e
       on : AreOn P ts
       on = all-without p (λ t. OnParent P t.namespace t.parent) rs (on_other place key rs childless)
 
-      chained : AllByRecursion (λ t. IsSome (chain rs t)) ts
-      chained = all-without p (λ t. IsSome (chain rs t)) rs good.chains
+      chained : AllByRecursion (λ t. IsSome (chain s.ancestors rs t)) ts
+      chained = all-without p (λ t. IsSome (chain s.ancestors rs t)) rs good.chains
 
       low : place < length ns
       low = place_of-below namespace ns place spaced
@@ -469,9 +491,10 @@ good_committed s slot name lease labels layer r good e free less = record {
       (all-map (λ t. HasLowSlot s.slots t.content) (λ t. AreApart t c) (λ t h k is. refl) us places)
       (pairwise-without (is_slot slot) AreApart rs good.slots);
   open_slots = all-with_record c (λ t. HasLowSlot s.slots t.content) us tt places;
-  shown = stand_shown ns rs ts keeps ts chained (all-with_record c (λ t. IsShown rs t.namespace t.parent t.content) us tt (all-without (is_slot slot) (λ t. IsShown rs t.namespace t.parent t.content) rs good.shown));
+  shown = stand_shown ns rs ts keeps ts (all_deep s good ts chained) (all-with_record c (λ t. IsShown rs t.namespace t.parent t.content) us tt (all-without (is_slot slot) (λ t. IsShown rs t.namespace t.parent t.content) rs good.shown));
   layers = good.layers;
-  chains = stand_chains ns rs ts keeps ts chained;
+  most = good.most;
+  chains = stand_chains ns rs ts keeps s.ancestors ts chained;
 }
   where
     ns : List Namespace
@@ -516,8 +539,8 @@ good_committed s slot name lease labels layer r good e free less = record {
     once None = good.named_once
     once (Some l) = NamesOnce-with_name_added (name_at r.namespace ns) l name s.leases good.named_once
 
-    chained : AllByRecursion (λ t. IsSome (chain rs t)) ts
-    chained = all-with_record c (λ t. IsSome (chain rs t)) us (active_at-all (λ t. IsSome (chain rs t)) slot rs r e good.chains) (all-without (is_slot slot) (λ t. IsSome (chain rs t)) rs good.chains)
+    chained : AllByRecursion (λ t. IsSome (chain s.ancestors rs t)) ts
+    chained = all-with_record c (λ t. IsSome (chain s.ancestors rs t)) us (active_at-all (λ t. IsSome (chain s.ancestors rs t)) slot rs r e good.chains) (all-without (is_slot slot) (λ t. IsSome (chain s.ancestors rs t)) rs good.chains)
 
     places : AllByRecursion (λ t. HasLowSlot s.slots t.content) us
     places = all-without (is_slot slot) (λ t. HasLowSlot s.slots t.content) rs good.open_slots
@@ -546,7 +569,8 @@ good_relabelled s place key labels good = record {
   shown = all-relabelled place key labels n (λ t. IsShown ts t.namespace t.parent t.content) rs (λ t h. h)
       (all-map (λ t. IsShown rs t.namespace t.parent t.content) (λ t. IsShown ts t.namespace t.parent t.content) (λ t h. shown_anew rs ts t.namespace t.parent t.content (alike-layers rs ts alike t.namespace t.parent) h) rs good.shown);
   layers = good.layers;
-  chains = all-relabelled place key labels n (λ t. IsSome (chain ts t)) rs (λ t h. h) (all-map (λ t. IsSome (chain rs t)) (λ t. IsSome (chain ts t)) (alike-some_chain rs ts alike) rs good.chains);
+  most = good.most;
+  chains = all-relabelled place key labels n (λ t. IsSome (chain s.ancestors ts t)) rs (λ t h. h) (all-map (λ t. IsSome (chain s.ancestors rs t)) (λ t. IsSome (chain s.ancestors ts t)) (alike-some_chain rs ts alike s.ancestors) rs good.chains);
 }
   where
     ns : List Namespace

@@ -28,7 +28,7 @@ use Rattle.snap_call.specs.declared.refusal.Refusal.{Refusal}
 use Rattle.snap_call.specs.declared.refusal.Refusal.TheVariants.{NoNamespace, NotFound}
 use Rattle.snap_call.specs.declared.reply.Reply.{Reply}
 use Rattle.snap_call.specs.declared.state.State.{State}
-use Rattle.snap_call.specs.Forms.{is_limit, is_layer_limit, is_namespace, is_slots, is_text, have_distinct_names, is_config, is_key, is_page, is_start}
+use Rattle.snap_call.specs.Forms.{is_limit, is_layer_limit, is_ancestor_limit, is_namespace, is_slots, is_text, have_distinct_names, is_config, is_key, is_page, is_start}
 use Rattle.snap_call.specs.Records.{charge_of, has_key, has_children, is_active, is_committed, record_at, active_at, max_slots, max_journal, max_sessions}
 use Rattle.snap_call.specs.State.{opening, place_of, limit_at}
 use Rattle.snap_call.specs.Good.{Good}
@@ -243,21 +243,22 @@ short_from (n ∷ ns) all =
     (bound, short_from ns h.1)
 
 -- each part of a configuration has its form
-six : (a b d f g h : Bool) → (a && (b && (d && (f && (g && (h && true)))))) ≡ true → (a ≡ true) × (b ≡ true) × (d ≡ true) × (g ≡ true) × (h ≡ true)
-six a b d f g h e =
-    let p = and_parts a (b && (d && (f && (g && (h && true))))) e in
-    let q = and_parts b (d && (f && (g && (h && true)))) p.1 in
-    let r = and_parts d (f && (g && (h && true))) q.1 in
-    let s = and_parts f (g && (h && true)) r.1 in
-    let t = and_parts g (h && true) s.1 in
-    (p.0, q.0, r.0, t.0, (and_parts h true t.1).0)
+seven : (a b d f g h k : Bool) → (a && (b && (d && (f && (g && (h && (k && true))))))) ≡ true → (a ≡ true) × (b ≡ true) × (d ≡ true) × (g ≡ true) × (h ≡ true) × (k ≡ true)
+seven a b d f g h k e =
+    let p = and_parts a (b && (d && (f && (g && (h && (k && true)))))) e in
+    let q = and_parts b (d && (f && (g && (h && (k && true))))) p.1 in
+    let r = and_parts d (f && (g && (h && (k && true)))) q.1 in
+    let s = and_parts f (g && (h && (k && true))) r.1 in
+    let t = and_parts g (h && (k && true)) s.1 in
+    let u = and_parts h (k && true) t.1 in
+    (p.0, q.0, r.0, t.0, u.0, (and_parts k true u.1).0)
 
 abbrev are_spaces : List Namespace → Bool
 are_spaces ns = list_all is_namespace ns && nat_le (length ns) 64 && have_distinct_names ns
 
 parts_formed : (c : Config) → is_config c ≡ true
-    → (is_root_text c.root ≡ true) × (are_spaces c.namespaces ≡ true) × (is_slots c.slots ≡ true) × (nat_le 1 c.first_id ≡ true) × (is_layer_limit c.layer_inodes ≡ true)
-parts_formed c e = six (is_root_text c.root) (are_spaces c.namespaces) (is_slots c.slots) (nat_le c.journal max_journal) (nat_le 1 c.first_id) (is_layer_limit c.layer_inodes) e
+    → (is_root_text c.root ≡ true) × (are_spaces c.namespaces ≡ true) × (is_slots c.slots ≡ true) × (nat_le 1 c.first_id ≡ true) × (is_layer_limit c.layer_inodes ≡ true) × (is_ancestor_limit c.ancestors ≡ true)
+parts_formed c e = seven (is_root_text c.root) (are_spaces c.namespaces) (is_slots c.slots) (nat_le c.journal max_journal) (nat_le 1 c.first_id) (is_layer_limit c.layer_inodes) (is_ancestor_limit c.ancestors) e
 
 root_formed : (c : Config) → is_config c ≡ true → is_root_text c.root ≡ true
 root_formed c e = (parts_formed c e).0
@@ -303,6 +304,7 @@ good_opening c e = record {
   shown = tt;
   chains = tt;
   layers = (parts_formed c e).4;
+  most = (parts_formed c e).5;
 }
 
 -- ---- a journal

@@ -162,6 +162,7 @@ module _ (limit : Usage) where
     open_slots = good.open_slots;
     shown = good.shown;
     layers = good.layers;
+    most = good.most;
     chains = good.chains;
   }
 
@@ -188,6 +189,7 @@ good_leasing s ls good leased once = record {
   open_slots = good.open_slots;
   shown = good.shown;
   layers = good.layers;
+  most = good.most;
   chains = good.chains;
 }
 

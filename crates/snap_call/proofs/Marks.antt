@@ -23,6 +23,7 @@ use Rattle.snap_call.specs.Records.{record_cmp, is_named, is_committed, committe
 use Rattle.snap_call.specs.State.{chain_from, most_ancestors}
 use Rattle.snap_call.proofs.Lists.{some_same, none_some, committed-parts, find-passes}
 use Rattle.snap_call.proofs.Chains.{chain_over}
+use Rattle.snap_call.proofs.Keeping.{good_chains}
 use Rattle.snap_call.proofs.Searches.{named_once}
 
 -- ---- items of a list
@@ -269,7 +270,7 @@ module _ (s : State) (namespace : Bytes) (place moment : ℕ) where
       law k r b here mark = mark_law (r.namespace == place) (is_committed r.content) b (is_reached s namespace place moment r.key) out kept
         where
           out : (r.namespace == place) ≡ true → b ≡ false → is_reached s namespace place moment r.key ≡ true
-          out own e = reached-is_reached place s.records good.sorted good.chains (is_in_use s namespace moment) k r here own ((set.reached k).0 (mark ∙ ap Some e))
+          out own e = reached-is_reached place s.records good.sorted (good_chains s good) (is_in_use s namespace moment) k r here own ((set.reached k).0 (mark ∙ ap Some e))
 
           free : b ≡ true → IsReached parents_of used_of k → ⊥
           free e = ((set.unreached k).0 (mark ∙ ap Some e)).1
@@ -280,7 +281,7 @@ module _ (s : State) (namespace : Bytes) (place moment : ℕ) where
           kept : (r.namespace == place) ≡ true → b ≡ true → (is_committed r.content ≡ true) × (is_reached s namespace place moment r.key ≡ false)
           kept own e = (
             true_from_ne_false (is_committed r.content) (λ h. free e (reached_itself own h)),
-            false_from_ne_true (is_reached s namespace place moment r.key) (λ h. free e (is_reached-reached place s.records good.sorted good.chains (is_in_use s namespace moment) k r here own h)),
+            false_from_ne_true (is_reached s namespace place moment r.key) (λ h. free e (is_reached-reached place s.records good.sorted (good_chains s good) (is_in_use s namespace moment) k r here own h)),
           )
 
 -- ---- the lists that the code makes

@@ -20,7 +20,7 @@ pub record IsPlace (s : State) (namespace key parent : Bytes) (place : ℕ) : Ty
   pub named : place_of namespace s.namespaces ≡ Some place
   pub free : has_key place key s.records ≡ false
   pub base : is_base place parent s.records ≡ true
-  pub deep : is_too_deep place parent s.records ≡ false
+  pub deep : is_too_deep s.ancestors place parent s.records ≡ false
 
 -- an answer that is no refusal comes from the tests that were passed
 past_test : (b : Bool) (why : Refusal) (next : Result ℕ Refusal) (place : ℕ) → (if b then Err why else next) ≡ Ok place → (b ≡ false) × (next ≡ Ok place)
@@ -34,19 +34,19 @@ past_needed false why next place e = absurd (cc)
 same_place : (p place : ℕ) (found : Result ℕ Refusal) → found ≡ Ok p → found ≡ Ok place → p ≡ place
 same_place p place found e f = cc
 
-place_on-Ok : (s : State) (namespace key parent : Bytes) (p place : ℕ) → place_of namespace s.namespaces ≡ Some p → place_on p key parent s.records ≡ Ok place → IsPlace s namespace key parent place
+place_on-Ok : (s : State) (namespace key parent : Bytes) (p place : ℕ) → place_of namespace s.namespaces ≡ Some p → place_on s.ancestors p key parent s.records ≡ Ok place → IsPlace s namespace key parent place
 place_on-Ok s namespace key parent p place named e =
     let present = past_needed (is_present p parent s.records) NotFound _ place e in
     let free = past_test (has_key p key s.records) AlreadyExists _ place present.1 in
     let base = past_needed (is_base p parent s.records) NotCommitted _ place free.1 in
-    let deep = past_test (is_too_deep p parent s.records) TooDeep _ place base.1 in
+    let deep = past_test (is_too_deep s.ancestors p parent s.records) TooDeep _ place base.1 in
     subst (IsPlace s namespace key parent) (same_place p place (Ok p) refl deep.1) (record { named = named; free = free.0; base = base.0; deep = deep.0 })
 
-place_in-Ok : (s : State) (namespace key parent : Bytes) (place : ℕ) (o : Option ℕ) → place_of namespace s.namespaces ≡ o → option_map_or (λ at. place_on at key parent s.records) o (Err NoNamespace) ≡ Ok place → IsPlace s namespace key parent place
+place_in-Ok : (s : State) (namespace key parent : Bytes) (place : ℕ) (o : Option ℕ) → place_of namespace s.namespaces ≡ o → option_map_or (λ at. place_on s.ancestors at key parent s.records) o (Err NoNamespace) ≡ Ok place → IsPlace s namespace key parent place
 place_in-Ok s namespace key parent place None named e = absurd (cc)
 place_in-Ok s namespace key parent place (Some p) named e = place_on-Ok s namespace key parent p place named e
 
-formed-Ok : (s : State) (namespace key parent : Bytes) (place : ℕ) (formed : Bool) → (if formed then option_map_or (λ at. place_on at key parent s.records) (place_of namespace s.namespaces) (Err NoNamespace) else Err BadArgument) ≡ Ok place → IsPlace s namespace key parent place
+formed-Ok : (s : State) (namespace key parent : Bytes) (place : ℕ) (formed : Bool) → (if formed then option_map_or (λ at. place_on s.ancestors at key parent s.records) (place_of namespace s.namespaces) (Err NoNamespace) else Err BadArgument) ≡ Ok place → IsPlace s namespace key parent place
 formed-Ok s namespace key parent place true e = place_in-Ok s namespace key parent place (place_of namespace s.namespaces) refl e
 formed-Ok s namespace key parent place false e = absurd (cc)
 

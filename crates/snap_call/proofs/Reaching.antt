@@ -7,12 +7,13 @@ use Rattle.snap_record.specs.Labels.{Bytes}
 use Rattle.snap_record.specs.declared.record.Record.{Record}
 use Rattle.snap_call.specs.declared.state.State.{State}
 use Rattle.snap_call.specs.Records.{is_named, record_at, committed_at}
-use Rattle.snap_call.specs.State.{ancestors}
+use Rattle.snap_call.specs.State.{ancestors, most_ancestors}
 use Rattle.snap_call.specs.Reached.{is_in_use, is_ancestor, is_reached}
 use Rattle.snap_call.specs.Good.{Good}
 use Rattle.snap_call.proofs.Lists.{some_same, find-passes, find-all, found-any, any-found, committed_at-record_at}
 use Rattle.snap_call.proofs.InOrder.{own_found}
 use Rattle.snap_call.proofs.Chains.{chain, OnParent, on_parent-map, KeyOf, IsLink, ancestors-head, ancestors-links}
+use Rattle.snap_call.proofs.Keeping.{good_chains}
 
 -- the reached keys, as a set
 abbrev pub IsReached : State → Bytes → ℕ → ℕ → ℕ → Bytes → Type 0
@@ -40,7 +41,7 @@ module _ (s : State) (namespace : Bytes) (place moment : ℕ) where
     root-above p r e own root =
         on_parent-map (KeyOf (ancestors r.namespace r.parent s.records)) (IsReached s namespace place moment) r.namespace place r.parent
         (λ h. reached_by p r e own root r.parent (or_right (bytes_eq r.key r.parent) (is_ancestor s.records r.parent r) h))
-        (ancestors-head s.records r.namespace r.parent (find-all (λ t. IsSome (chain s.records t)) p s.records r e good.chains))
+        (ancestors-head s.records r.namespace r.parent (find-all (λ t. IsSome (chain most_ancestors s.records t)) p s.records r e (good_chains s good)))
 
     -- so is that of a snapshot that one in use stands on
     ancestor-above : (p : Record → Bool) (r : Record) → find p s.records ≡ Some r → (r.namespace == place) ≡ true → is_in_use s namespace moment r ≡ true → (key : Bytes) → is_ancestor s.records key r ≡ true
@@ -48,7 +49,7 @@ module _ (s : State) (namespace : Bytes) (place moment : ℕ) where
     ancestor-above p r e own root key above t is =
         let rs = s.records in
         let all : List Record = ancestors r.namespace r.parent rs in
-        let some : IsSome (chain rs r) = find-all (λ u. IsSome (chain rs u)) p rs r e good.chains in
+        let some : IsSome (chain most_ancestors rs r) = find-all (λ u. IsSome (chain most_ancestors rs u)) p rs r e (good_chains s good) in
         let f = found-any (λ (u : Record). bytes_eq u.key key) all above in
         let named : f.0.key ≡ key = (bytes_eq-Decides f.0.key key).0 (find-passes (λ (u : Record). bytes_eq u.key key) all f.0 f.1) in
         let link : IsLink rs r.namespace all f.0 = find-all (IsLink rs r.namespace all) (λ (u : Record). bytes_eq u.key key) all f.0 f.1 (ancestors-links rs r.namespace r.parent some) in

@@ -19,7 +19,7 @@ use Rattle.snap_call.specs.declared.config.Namespace.{Namespace}
 use Rattle.snap_call.specs.declared.refusal.Refusal.TheVariants.{NoNamespace}
 use Rattle.snap_call.specs.declared.state.State.{State}
 use Rattle.snap_call.specs.Records.{is_named, is_active, is_committed, has_slot, is_slot, record_at, active_at, committed_at, charge_of, charge_at, open_count, HasLowSlot, AreApart}
-use Rattle.snap_call.specs.State.{place_of, limit_at, ancestors}
+use Rattle.snap_call.specs.State.{place_of, limit_at, ancestors, most_ancestors}
 use Rattle.snap_call.specs.Reached.{is_ancestor, is_reached, is_swept, swept, unswept}
 use Rattle.snap_call.specs.Good.{IsGuarding, IsUsageCounted, IsShown, Good}
 use Rattle.snap_call.specs.Step.{refused, swept_at, sweep_at, sweep}
@@ -31,7 +31,7 @@ use Rattle.snap_call.proofs.Sums.{Covers-plus, charge_of-elsewhere, charge_of-fi
 use Rattle.snap_call.proofs.Counts.{open_count-filter}
 use Rattle.snap_call.proofs.Slots.{active_at-filter, charge_at-filter}
 use Rattle.snap_call.proofs.Reaching.{IsReached, reached_by, reached-above, root-above}
-use Rattle.snap_call.proofs.Keeping.{AreNamed, chains_on, covers_gone, good_counted, leases_on, parents_on, place_of-below, same_name, shown_on, within_after}
+use Rattle.snap_call.proofs.Keeping.{AreNamed, all_deep, chains_on, covers_gone, good_chains, good_counted, leases_on, parents_on, place_of-below, same_name, shown_on, within_after}
 
 -- the keys of other namespaces, and those of this one that are reached
 abbrev pub Stays : State → Bytes → ℕ → ℕ → ℕ → Bytes → Type 0
@@ -168,21 +168,21 @@ module _ (s : State) (namespace : Bytes) (place moment : ℕ) where
         (all-map (λ r. record_at r.namespace r.key s.records ≡ Some r) (λ r. stays r ≡ true → OnParent (Stays s namespace place moment) r.namespace r.parent)
         (λ r e is. on_unswept (is_named r.namespace r.key) r e (not_true (is_swept s namespace place moment r) is)) s.records (own_found s.records good.sorted))
 
-    chained : AllByRecursion (λ r. IsSome (chain s.records r)) (unswept s namespace place moment)
-    chained = all-filter (λ r. IsSome (chain s.records r)) stays s.records good.chains
+    chained : AllByRecursion (λ r. IsSome (chain s.ancestors s.records r)) (unswept s namespace place moment)
+    chained = all-filter (λ r. IsSome (chain s.ancestors s.records r)) stays s.records good.chains
 
     -- the ancestors of a snapshot that stays are the same
     pub swept-ancestors : (p : Record → Bool) (r : Record) → find p s.records ≡ Some r → is_swept s namespace place moment r ≡ false
         → ancestors r.namespace r.parent (unswept s namespace place moment) ≡ ancestors r.namespace r.parent s.records
     swept-ancestors p r e out =
         keeps-ancestors (Stays s namespace place moment) s.records (unswept s namespace place moment) keeps-unswept r.namespace r.parent (on_unswept p r e out)
-        (find-all (λ t. IsSome (chain s.records t)) p s.records r e good.chains)
+        (find-all (λ t. IsSome (chain most_ancestors s.records t)) p s.records r e (good_chains s good))
 
     pub unswept-ancestors : AllByRecursion (λ r. ancestors r.namespace r.parent (unswept s namespace place moment) ≡ ancestors r.namespace r.parent s.records) (unswept s namespace place moment)
     unswept-ancestors =
-        all-map (λ r. OnParent (Stays s namespace place moment) r.namespace r.parent × IsSome (chain s.records r)) (λ r. ancestors r.namespace r.parent (unswept s namespace place moment) ≡ ancestors r.namespace r.parent s.records)
+        all-map (λ r. OnParent (Stays s namespace place moment) r.namespace r.parent × IsSome (chain most_ancestors s.records r)) (λ r. ancestors r.namespace r.parent (unswept s namespace place moment) ≡ ancestors r.namespace r.parent s.records)
         (λ r h. keeps-ancestors (Stays s namespace place moment) s.records (unswept s namespace place moment) keeps-unswept r.namespace r.parent h.0 h.1)
-        (unswept s namespace place moment) (all-both (λ r. OnParent (Stays s namespace place moment) r.namespace r.parent) (λ r. IsSome (chain s.records r)) (unswept s namespace place moment) all_unswept chained)
+        (unswept s namespace place moment) (all-both (λ r. OnParent (Stays s namespace place moment) r.namespace r.parent) (λ r. IsSome (chain most_ancestors s.records r)) (unswept s namespace place moment) all_unswept (all_deep s good (unswept s namespace place moment) chained))
 
     -- those of a snapshot that is active in a slot are the same
     pub active-ancestors : (k : ℕ) (r : Record) → active_at k s.records ≡ Some r → ancestors r.namespace r.parent (unswept s namespace place moment) ≡ ancestors r.namespace r.parent s.records
@@ -259,9 +259,10 @@ module _ (s : State) (namespace : Bytes) (place moment : ℕ) where
         few_slots = good.few_slots;
         slots = pairwise-filter stays AreApart rs good.slots;
         open_slots = all-filter (λ t. HasLowSlot s.slots t.content) stays rs good.open_slots;
-        shown = shown_on P rs ts keeps ts on chained (all-filter (λ t. IsShown rs t.namespace t.parent t.content) stays rs good.shown);
+        shown = shown_on P rs ts keeps ts on (all_deep s good ts chained) (all-filter (λ t. IsShown rs t.namespace t.parent t.content) stays rs good.shown);
         layers = good.layers;
-        chains = chains_on P rs ts keeps ts on chained;
+        most = good.most;
+        chains = chains_on P rs ts keeps s.ancestors ts on chained;
       }
         where
           P : ℕ → Bytes → Type 0

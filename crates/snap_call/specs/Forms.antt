@@ -10,6 +10,7 @@ use Rattle.snap_call.specs.declared.config.ConfigField.{ConfigField}
 use Rattle.snap_call.specs.declared.config.ConfigField.TheVariants as fields
 use Rattle.snap_call.specs.declared.config.Namespace.{Namespace}
 use Rattle.snap_call.specs.Records.{max_slots, max_journal}
+use Rattle.snap_call.specs.State.{most_ancestors}
 
 -- 1 to so many bytes, none of them NUL
 abbrev pub is_text : ℕ → Bytes → Bool
@@ -53,6 +54,10 @@ is_slots n = nat_le 1 n && nat_le n max_slots
 abbrev pub is_layer_limit : ℕ → Bool
 is_layer_limit inodes = nat_le 1 inodes && nat_le inodes most_inodes
 
+-- the most committed ancestors of a snapshot: 1 to 500
+abbrev pub is_ancestor_limit : ℕ → Bool
+is_ancestor_limit most = nat_le 1 most && nat_le most most_ancestors
+
 -- the part of a configuration has its form; there are at most 64 namespaces, with distinct names
 abbrev pub has_form : Config → ConfigField → Bool
 has_form c fields.Root = is_root_text c.root
@@ -61,10 +66,11 @@ has_form c fields.Slots = is_slots c.slots
 has_form c fields.Journal = nat_le c.journal max_journal
 has_form c fields.FirstId = nat_le 1 c.first_id
 has_form c fields.LayerInodes = is_layer_limit c.layer_inodes
+has_form c fields.Ancestors = is_ancestor_limit c.ancestors
 
 -- the parts of a configuration, in their order
 abbrev pub config_fields : List ConfigField
-config_fields = fields.Root ∷ fields.Namespaces ∷ fields.Slots ∷ fields.Journal ∷ fields.FirstId ∷ fields.LayerInodes ∷ []
+config_fields = fields.Root ∷ fields.Namespaces ∷ fields.Slots ∷ fields.Journal ∷ fields.FirstId ∷ fields.LayerInodes ∷ fields.Ancestors ∷ []
 
 -- what a store can be opened with: each part has its form
 abbrev pub is_config : Config → Bool

@@ -11,9 +11,9 @@ use Rattle.snap_record.specs.declared.record.Record.{Record}
 use Rattle.snap_mount.specs.Mounts.{is_root_text}
 use Rattle.snap_call.specs.declared.config.Namespace.{Namespace}
 use Rattle.snap_call.specs.declared.state.State.{State}
-use Rattle.snap_call.specs.Forms.{is_limit, is_layer_limit, have_distinct_names}
+use Rattle.snap_call.specs.Forms.{is_limit, is_layer_limit, is_ancestor_limit, have_distinct_names}
 use Rattle.snap_call.specs.Records.{record_cmp, committed_at, charge_of, AllPairwise, AreApart, HasLowSlot, max_slots}
-use Rattle.snap_call.specs.State.{place_of, limit_at, chain_from, is_base, shown_layers, most_ancestors}
+use Rattle.snap_call.specs.State.{place_of, limit_at, chain_from, is_base, shown_layers}
 
 -- each snapshot that the lease names is a committed one of the lease's namespace
 abbrev pub IsGuarding : List Namespace → List Record → Lease → Type 0
@@ -66,7 +66,9 @@ pub record Good (s : State) : Type 0 where
   pub open_slots : AllByRecursion (λ r. HasLowSlot s.slots r.content) s.records
   -- each view keeps the layers that it shows
   pub shown : AllByRecursion (λ r. IsShown s.records r.namespace r.parent r.content) s.records
-  -- each snapshot has a chain of committed ancestors, not too deep
-  pub chains : AllByRecursion (λ r. IsSome (chain_from most_ancestors s.records r.namespace r.parent)) s.records
+  -- each snapshot has a chain of committed ancestors, no more than the store allows
+  pub chains : AllByRecursion (λ r. IsSome (chain_from s.ancestors s.records r.namespace r.parent)) s.records
   -- the most inodes of a layer are 1 to 2^24
   pub layers : is_layer_limit s.layer_inodes ≡ true
+  -- the most committed ancestors are 1 to 500
+  pub most : is_ancestor_limit s.ancestors ≡ true

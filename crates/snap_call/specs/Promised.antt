@@ -5,7 +5,7 @@ use Rattle.snap_usage.specs.Counted.{Covers}
 use Rattle.snap_call.specs.declared.state.State.{State}
 use Rattle.snap_call.specs.Good.{IsGuarding, IsUsageCounted}
 use Rattle.snap_call.specs.Records.{charge_of}
-use Rattle.snap_call.specs.State.{chain_from, is_base, limit_at, most_ancestors}
+use Rattle.snap_call.specs.State.{chain_from, is_base, limit_at}
 
 pub record Promised (s : State) : Type 0 where
   -- each snapshot has no parent, or one that is a committed snapshot of its namespace
@@ -16,5 +16,5 @@ pub record Promised (s : State) : Type 0 where
   pub counted : AllByRecursion (λ r. IsUsageCounted r.content) s.records
   -- each namespace is charged within its limit
   pub within : (place : ℕ) → place < length s.namespaces → Covers (limit_at place s.namespaces) (charge_of place s.records)
-  -- each snapshot has a chain of committed ancestors, not too deep
-  pub chains : AllByRecursion (λ r. IsSome (chain_from most_ancestors s.records r.namespace r.parent)) s.records
+  -- each snapshot has a chain of committed ancestors, no more than the store allows
+  pub chains : AllByRecursion (λ r. IsSome (chain_from s.ancestors s.records r.namespace r.parent)) s.records

@@ -19,7 +19,7 @@ use Rattle.snap_call.specs.Records.{charge_of, has_key, committed_at}
 
 -- the state of a store that is opened: no records, no leases, no sessions, no entries
 abbrev pub opening : Config → State
-opening c = record { root = c.root; namespaces = c.namespaces; slots = c.slots; records = []; leases = []; next_id = c.first_id; sessions = 0; entries = 0; layer_inodes = c.layer_inodes }
+opening c = record { root = c.root; namespaces = c.namespaces; slots = c.slots; records = []; leases = []; next_id = c.first_id; sessions = 0; entries = 0; layer_inodes = c.layer_inodes; ancestors = c.ancestors }
 
 -- the place of a namespace, if the store has it
 abbrev pub place_of : Bytes → List Namespace → Option ℕ
@@ -45,9 +45,13 @@ over_limit s place =
     let free = minus (limit_at place s.namespaces) (charge_of place s.records) in
     OverLimit free.blocks free.inodes
 
--- the most committed ancestors of a snapshot: a limit of this project
+-- the most committed ancestors that a store can allow a snapshot: as many lower layers as Linux's overlayfs takes
 abbrev pub most_ancestors : ℕ
-most_ancestors = 64
+most_ancestors = 500
+
+-- the most of a store whose opening doesn't say
+abbrev pub default_ancestors : ℕ
+default_ancestors = 64
 
 -- the committed records from a parent upwards, nearest first; nothing where one is missing or isn't committed, or where there are more than so many
 abbrev pub chain_from : ℕ → List Record → ℕ → Bytes → Option (List Record)
@@ -67,9 +71,9 @@ abbrev pub is_base : ℕ → Bytes → List Record → Bool
 is_base place [] rs = true
 is_base place (b ∷ bs) rs = is_some (committed_at place (b ∷ bs) rs)
 
--- a snapshot on it would have more committed ancestors than that
-abbrev pub is_too_deep : ℕ → Bytes → List Record → Bool
-is_too_deep place parent rs = not (is_some (chain_from most_ancestors rs place parent))
+-- a snapshot on it would have more committed ancestors than so many
+abbrev pub is_too_deep : ℕ → ℕ → Bytes → List Record → Bool
+is_too_deep most place parent rs = not (is_some (chain_from most rs place parent))
 
 -- the committed ancestors of a snapshot on it, nearest first
 abbrev pub ancestors : ℕ → Bytes → List Record → List Record

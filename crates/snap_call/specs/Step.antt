@@ -63,13 +63,13 @@ unless_refused s (Ok found) next = next found
 unless_refused s (Err why) next = refused s why
 
 -- A new snapshot: the place of its namespace, or the first refusal of its key and its parent there
-abbrev pub place_on : ℕ → Bytes → Bytes → List Record → Result ℕ Refusal
-place_on place key parent rs =
-    tested Err (must (is_present place parent rs) NotFound ∷ must_not (has_key place key rs) AlreadyExists ∷ must (is_base place parent rs) NotCommitted ∷ must_not (is_too_deep place parent rs) TooDeep ∷ []) (Ok place)
+abbrev pub place_on : ℕ → ℕ → Bytes → Bytes → List Record → Result ℕ Refusal
+place_on most place key parent rs =
+    tested Err (must (is_present place parent rs) NotFound ∷ must_not (has_key place key rs) AlreadyExists ∷ must (is_base place parent rs) NotCommitted ∷ must_not (is_too_deep most place parent rs) TooDeep ∷ []) (Ok place)
 
 abbrev pub place_for : State → Bytes → Bytes → Bytes → List Label → Result ℕ Refusal
 place_for s namespace key parent labels =
-    tested Err (must (is_key key && is_parent parent && are_labels labels) BadArgument ∷ []) (option_map_or (λ place. place_on place key parent s.records) (place_of namespace s.namespaces) (Err NoNamespace))
+    tested Err (must (is_key key && is_parent parent && are_labels labels) BadArgument ∷ []) (option_map_or (λ place. place_on s.ancestors place key parent s.records) (place_of namespace s.namespaces) (Err NoNamespace))
 
 -- a new snapshot, made by this entry
 abbrev pub new_record : State → ℕ → Bytes → Bytes → List Label → Content → Record

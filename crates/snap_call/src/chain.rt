@@ -1,7 +1,7 @@
 // The committed ancestors of a snapshot.
 ghost use Rattle.std.specs.Prelude.{◌≡◌, false, [], ◌++◌, IfOk, OnOk, IsSome, is_some, unwrap_or, option_copied, option_to_list};
 ghost use Rattle.snap_call.specs.Records.{is_committed, committed_at};
-ghost use Rattle.snap_call.specs.State.{chain_from, ancestors, ids_of, layer_of, layers_of, is_present, is_base, is_too_deep};
+ghost use Rattle.snap_call.specs.State.{chain_from, ancestors, ids_of, layer_of, layers_of, is_present, is_base, is_too_deep, most_ancestors};
 
 use crate::limits::MAX_ANCESTORS;
 use crate::records::Records;
@@ -80,12 +80,12 @@ impl Records {
         }
     }
 
-    /// Whether a snapshot on the parent would have more than 64 committed ancestors. Takes no memory.
-    /// It searches the records once for each ancestor.
-    pub fn is_too_deep(&self, place: usize, parent: &str) -> bool
-        ensures { result ≡ is_too_deep place parent.now self.now }
+    /// Whether a snapshot on the parent would have more than so many committed ancestors. Takes no
+    /// memory. It searches the records once for each ancestor.
+    pub fn is_too_deep(&self, most: u64, place: usize, parent: &str) -> bool
+        ensures { result ≡ is_too_deep most place parent.now self.now }
     {
-        !self.has_chain(MAX_ANCESTORS, place, parent)
+        !self.has_chain(most, place, parent)
     }
 
     // Puts the ancestors' ids last.
@@ -117,7 +117,7 @@ impl Records {
         place: usize,
         parent: &str,
     ) -> Result<Sequence<u32>, AllocError>
-        requires { is_too_deep place parent.now self.now ≡ false }
+        requires { is_too_deep most_ancestors place parent.now self.now ≡ false }
         ensures { IfOk result (λ ids. ids ≡ ids_of (ancestors place parent.now self.now)) }
     {
         let mut ids = Sequence::new(alloc);
@@ -151,7 +151,7 @@ impl Records {
     /// The committed ancestors of a snapshot on the parent: their ids, and their layers, which are not
     /// copied. It searches the records once for each.
     pub fn chain(&self, alloc: Global, place: usize, parent: &str) -> Result<Chain, AllocError>
-        requires { is_too_deep place parent.now self.now ≡ false }
+        requires { is_too_deep most_ancestors place parent.now self.now ≡ false }
         ensures ids { IfOk result (λ chain. chain.ids ≡ ids_of (ancestors place parent.now self.now)) }
         ensures layers { IfOk result (λ chain. chain.layers ≡ layers_of (ancestors place parent.now self.now)) }
     {

@@ -1,9 +1,9 @@
 ghost use Rattle.std.specs.Prelude.{◌≡◌, None, true, ◌↔◌, ◌&&◌, nat_le, length};
 ghost use Rattle.std.specs.List.{list_all};
-ghost use Rattle.snap_call.specs.Forms.{bad_field, have_distinct_names, is_config, is_layer_limit, is_namespace};
+ghost use Rattle.snap_call.specs.Forms.{bad_field, have_distinct_names, is_ancestor_limit, is_config, is_layer_limit, is_namespace};
 
 use crate::forms::{are_namespaces, has_distinct_names, is_slots};
-use crate::limits::{MAX_JOURNAL, MAX_NAMESPACES};
+use crate::limits::{MAX_ANCESTORS, MAX_JOURNAL, MAX_NAMESPACES};
 use snap_mount::is_root_text;
 use snap_path::limits::MAX_LAYER_INODES;
 use snap_record::{Sequence, Text};
@@ -34,6 +34,8 @@ pub struct Config {
     pub first_id: u32,
     /// The most inodes of each layer that is made in it, its root's one among them: 1 to 16,777,216.
     pub layer_inodes: u64,
+    /// The most committed ancestors of each snapshot: 1 to 500.
+    pub ancestors: u64,
 }
 
 /// A copy of the name.
@@ -57,6 +59,7 @@ pub enum ConfigField {
     Journal,
     FirstId,
     LayerInodes,
+    Ancestors,
 }
 
 /// Whether the namespaces have their forms, are no more than a store can have, and have distinct names.
@@ -73,6 +76,13 @@ fn is_layer_limit(inodes: u64) -> bool
     ensures { result ≡ is_layer_limit inodes }
 {
     1 <= inodes && inodes <= MAX_LAYER_INODES as u64
+}
+
+/// Whether a snapshot can be allowed so many committed ancestors.
+fn is_ancestor_limit(most: u64) -> bool
+    ensures { result ≡ is_ancestor_limit most }
+{
+    1 <= most && most <= MAX_ANCESTORS
 }
 
 impl Config {
@@ -100,6 +110,9 @@ impl Config {
         }
         if !is_layer_limit(self.layer_inodes) {
             return Some(ConfigField::LayerInodes);
+        }
+        if !is_ancestor_limit(self.ancestors) {
+            return Some(ConfigField::Ancestors);
         }
         None
     }

@@ -19,8 +19,12 @@ pub const DEFAULT_SLOTS: u64 = 64;
 /// The most slots of a store: how many snapshots may be open at one time, all namespaces together.
 pub const MAX_SLOTS: u64 = 4096;
 
-/// The most committed ancestors of a snapshot.
-pub const MAX_ANCESTORS: u64 = 64;
+/// The most committed ancestors of a snapshot in a store whose opening doesn't say.
+pub const DEFAULT_ANCESTORS: u64 = 64;
+
+/// The most committed ancestors that a store can allow a snapshot: as many lower layers as Linux's
+/// overlayfs takes (`OVL_MAX_STACK` of the kernel's fs/overlayfs/params.h).
+pub const MAX_ANCESTORS: u64 = 500;
 
 /// The most infos that one walk answers.
 pub const MAX_PAGE: u64 = 64;

@@ -46,7 +46,7 @@ pub enum Refusal {
     /// The namespace has a lease of this name already.
     #[error("the lease exists already")]
     LeaseExists,
-    /// The snapshot would have more than 64 committed ancestors.
+    /// The snapshot would have more committed ancestors than the store allows.
     #[error("too many ancestors")]
     TooDeep,
     /// As many snapshots are open as the store may have: all its slots are taken.

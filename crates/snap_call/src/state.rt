@@ -34,8 +34,10 @@ pub struct State {
     pub sessions: u64,
     /// How many entries were ever recorded.
     pub entries: u64,
-    /// The most inodes of each layer that is made.
+    /// The most inodes of each layer that is made. No call changes it.
     pub layer_inodes: u64,
+    /// The most committed ancestors of each snapshot. No call changes it.
+    pub ancestors: u64,
 }
 
 // The record of an active snapshot as it is once it is committed under the name with the layer, by the
@@ -90,6 +92,7 @@ impl State {
             sessions: 0,
             entries: 0,
             layer_inodes: config.layer_inodes,
+            ancestors: config.ancestors,
         }
     }
 

@@ -20,7 +20,7 @@ abbrev layer : Tree
 layer = root_only 493 1
 
 abbrev start : State
-start = opening (record { root = 47 ∷ 114 ∷ []; namespaces = record { name = 97 ∷ []; limit = record { blocks = 10; inodes = 10 } } ∷ []; slots = default_slots; journal = 100; first_id = 1; layer_inodes = 65536 })
+start = opening (record { root = 47 ∷ 114 ∷ []; namespaces = record { name = 97 ∷ []; limit = record { blocks = 10; inodes = 10 } } ∷ []; slots = default_slots; journal = 100; first_id = 1; layer_inodes = 65536; ancestors = 64 })
 
 abbrev opened : Entry
 opened = call_entry 0 calls.Session Nothing Opened

@@ -8,7 +8,7 @@ use Rattle.snap_round.specs.declared.rule.RoundView.{RoundView}
 
 -- a round of no store
 abbrev pub no_round : Round
-no_round = record { opening = record { root = []; namespaces = []; slots = 0; records = []; leases = []; next_id = 0; sessions = 0; entries = 0; layer_inodes = 0 }; limit = 0 }
+no_round = record { opening = record { root = []; namespaces = []; slots = 0; records = []; leases = []; next_id = 0; sessions = 0; entries = 0; layer_inodes = 0; ancestors = 0 }; limit = 0 }
 
 -- both halves in one
 abbrev pub whole_round : Round → RoundView

@@ -141,6 +141,7 @@ config_field_name config_fields.Slots = codes "slots"
 config_field_name config_fields.Journal = codes "journal"
 config_field_name config_fields.FirstId = codes "first_id"
 config_field_name config_fields.LayerInodes = codes "layer_inodes"
+config_field_name config_fields.Ancestors = codes "ancestors"
 
 -- the refusal of a store, with the field that is malformed
 abbrev pub bad_config_data : ConfigField → Data

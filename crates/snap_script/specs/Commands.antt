@@ -13,6 +13,7 @@ use Rattle.snap_call.specs.declared.question.Question.{Question}
 use Rattle.snap_call.specs.declared.question.Question.TheVariants as questions
 use Rattle.snap_call.specs.Questions.{asking}
 use Rattle.snap_call.specs.Records.{default_slots, max_journal}
+use Rattle.snap_call.specs.State.{default_ancestors}
 use Rattle.snap_call.specs.Results.{◌>>=◌}
 use Rattle.snap_history.specs.declared.kind.CallKind.{CallKind}
 use Rattle.snap_history.specs.declared.kind.CallKind.TheVariants as kinds
@@ -34,7 +35,7 @@ use Rattle.snap_script.specs.Operations.{path_in, file_operation, operations}
 unfoldable pub named : Data → Result (Bytes × Bytes) Fault
 named line = do namespace ← text fields.Namespace line; key ← text fields.Key line; Ok (namespace, key)
 
--- the store that open names, by its root, its namespaces, the most entries of its journal, how many slots it has, and the most inodes of a layer. The first id is 1.
+-- the store that open names, by its root, its namespaces, the most entries of its journal, how many slots it has, the most inodes of a layer, and the most committed ancestors of a snapshot. The first id is 1.
 unfoldable pub config_of : Data → Result Config Fault
 config_of line = do
   root ← text fields.Root line
@@ -42,7 +43,8 @@ config_of line = do
   journal ← optional as_natural fields.Journal (Ok max_journal) line
   slots ← optional as_natural fields.Slots (Ok default_slots) line
   inodes ← optional as_natural fields.LayerInodes (Ok default_inodes) line
-  Ok (record { root = root; namespaces = namespaces; slots = slots; journal = journal; first_id = 1; layer_inodes = inodes })
+  ancestors ← optional as_natural fields.Ancestors (Ok default_ancestors) line
+  Ok (record { root = root; namespaces = namespaces; slots = slots; journal = journal; first_id = 1; layer_inodes = inodes; ancestors = ancestors })
 
 -- the filter of a walk: each part that is there is asked for
 unfoldable pub filter_of : Data → Result Filter Fault

@@ -39,7 +39,7 @@ operation_fields file_verbs.Rename = fields.From ∷ fields.To ∷ []
 
 -- the fields that each command has, with and without a default: a file command those of its operation, and before them what a job has for all its operations
 abbrev pub fields_of : Verb → List Field
-fields_of verbs.Open = fields.Root ∷ fields.Namespaces ∷ fields.Journal ∷ fields.Slots ∷ fields.LayerInodes ∷ []
+fields_of verbs.Open = fields.Root ∷ fields.Namespaces ∷ fields.Journal ∷ fields.Slots ∷ fields.LayerInodes ∷ fields.Ancestors ∷ []
 fields_of verbs.Reopen = fields.Journal ∷ []
 fields_of verbs.Roll = fields.Journal ∷ []
 fields_of (verbs.Call kinds.Session) = []

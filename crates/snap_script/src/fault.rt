@@ -27,6 +27,8 @@ pub enum Field {
     /// How many snapshots may be open at one time.
     Slots,
     LayerInodes,
+    /// The most committed ancestors of a snapshot.
+    Ancestors,
     /// `ns`, a namespace's name.
     Namespace,
     Key,
@@ -158,6 +160,7 @@ impl Field {
             Field::Journal => "journal",
             Field::Slots => "slots",
             Field::LayerInodes => "layer_inodes",
+            Field::Ancestors => "ancestors",
             Field::Namespace => "ns",
             Field::Key => "key",
             Field::Parent => "parent",
@@ -204,6 +207,7 @@ impl Field {
             | Field::Journal
             | Field::Slots
             | Field::LayerInodes
+            | Field::Ancestors
             | Field::Most
             | Field::Until
             | Field::Moment

@@ -16,7 +16,7 @@ use crate::fields::{
 use crate::operation::{file_operation, path_in};
 use crate::unknown::FieldRule;
 use crate::verb::{LookupVerb, Verb};
-use snap_call::limits::{DEFAULT_SLOTS, MAX_JOURNAL};
+use snap_call::limits::{DEFAULT_ANCESTORS, DEFAULT_SLOTS, MAX_JOURNAL};
 use snap_call::{Call, Config, Question};
 use snap_history::CallKind;
 use snap_json::Value;
@@ -52,6 +52,7 @@ pub(crate) fn config_of(alloc: Global, line: &Value<'_>) -> Result<Config, ReadE
     let journal = number_or(MAX_JOURNAL, Field::Journal, line)?;
     let slots = number_or(DEFAULT_SLOTS, Field::Slots, line)?;
     let layer_inodes = number_or(DEFAULT_LAYER_INODES as u64, Field::LayerInodes, line)?;
+    let ancestors = number_or(DEFAULT_ANCESTORS, Field::Ancestors, line)?;
     Ok(Config {
         root,
         namespaces,
@@ -59,6 +60,7 @@ pub(crate) fn config_of(alloc: Global, line: &Value<'_>) -> Result<Config, ReadE
         journal,
         first_id: FIRST_ID,
         layer_inodes,
+        ancestors,
     })
 }
 

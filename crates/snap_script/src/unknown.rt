@@ -140,6 +140,7 @@ fn fields_of(verb: Verb) -> &'static [Field]
             Field::Journal,
             Field::Slots,
             Field::LayerInodes,
+            Field::Ancestors,
         ],
         Verb::Reopen | Verb::Roll => &[Field::Journal],
         Verb::Call(kind) => call_fields(kind),

@@ -177,6 +177,7 @@ pub(crate) fn config_field_name(field: ConfigField) -> &'static str
         ConfigField::Journal => "journal",
         ConfigField::FirstId => "first_id",
         ConfigField::LayerInodes => "layer_inodes",
+        ConfigField::Ancestors => "ancestors",
     }
 }
 

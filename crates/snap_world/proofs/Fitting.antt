@@ -29,13 +29,13 @@ use Rattle.snap_call.specs.Journal.{call_entry}
 use Rattle.snap_call.specs.Records.{active_at, charge_of, has_children, has_key, is_active, is_committed, is_named, is_slot, recharged, record_at, relabelled, with_record, without_key, without_slot, committed_as, max_sessions}
 use Rattle.snap_call.specs.Forms.{is_key, is_limit, is_page, is_start}
 use Rattle.snap_call.specs.Reached.{unswept}
-use Rattle.snap_call.specs.State.{ancestors, layers_of, place_of, shown_layers}
+use Rattle.snap_call.specs.State.{ancestors, layers_of, most_ancestors, place_of, shown_layers}
 use Rattle.snap_call.specs.Step.{are_formed, IsAllowed, IsCovered, IsOpenSlot, has_named, in_namespace, sweep, sweep_at, ask, charge, commit_as, committed as committed_state, discard, greater, one, prepared as prepared_state, refused, step, trim, place_for, slot_for, unless_refused, mounts, prepare_view, update_record, new_record, at_record}
 use Rattle.snap_call.specs.Steps.{lease_add, lease_create, lease_drop, lease_release, set_limit, session, remove, update, walk_infos}
 use Rattle.snap_call.proofs.Parts.{lease_add_record, lease_drop_at, charge_to, prepare_at, view_at, remove_record}
 use Rattle.snap_call.proofs.Alike.{AreAlike, bare, bare-relabelled, alike-active_at, alike-active_at_None, alike-layers}
 use Rattle.snap_call.proofs.Chains.{chain, Every, OnParent, every, on_parent, IsOther, Keeps, Keeps-after, Keeps-recharged, Keeps-with_record, Keeps-without_slot, chain-found, keeps-ancestors, keeps-without_key, on_other}
-use Rattle.snap_call.proofs.Keeping.{covers-Covers}
+use Rattle.snap_call.proofs.Keeping.{covers-Covers, good_chains, good_deep}
 use Rattle.snap_call.proofs.Kept.{good_step}
 use Rattle.snap_call.proofs.Lists.{active_at-all}
 use Rattle.snap_call.proofs.InOrder.{has_key-without}
@@ -72,7 +72,7 @@ AgreeAll hands rs = (slot : ℕ) → AgreesAt slot rs (hand_at slot hands) (acti
 
 -- each record has its ancestors
 abbrev AreChained : List Record → Type 0
-AreChained rs = AllByRecursion (λ r. IsSome (chain rs r)) rs
+AreChained rs = AllByRecursion (λ r. IsSome (chain most_ancestors rs r)) rs
 
 -- ---- records that keep the committed ones
 
@@ -86,7 +86,7 @@ same_here rs k r e = refl
 -- where all committed records are kept
 same_where : (rs ts : List Record) → AreChained rs → Keeps rs ts → AreSame rs ts
 same_where rs ts chained keeps k r e =
-    ap layers_of (keeps-ancestors Every rs ts (every rs ts keeps) r.namespace r.parent (on_parent Every r.namespace r.parent tt) (active_at-all (λ t. IsSome (chain rs t)) k rs r e chained))
+    ap layers_of (keeps-ancestors Every rs ts (every rs ts keeps) r.namespace r.parent (on_parent Every r.namespace r.parent tt) (active_at-all (λ t. IsSome (chain most_ancestors rs t)) k rs r e chained))
 
 -- where a key goes that no record is on
 same_without : (rs : List Record) (place : ℕ) (key : Bytes) → AreChained rs → has_children place key rs ≡ false → AreSame rs (without_key place key rs)
@@ -94,7 +94,7 @@ same_without rs place key chained childless k r e =
     ap layers_of
     (keeps-ancestors (IsOther place key) rs (without_key place key rs) (keeps-without_key place key rs childless) r.namespace r.parent
     (active_at-all (λ t. OnParent (IsOther place key) t.namespace t.parent) k rs r e (on_other place key rs childless))
-    (active_at-all (λ t. IsSome (chain rs t)) k rs r e chained))
+    (active_at-all (λ t. IsSome (chain most_ancestors rs t)) k rs r e chained))
 
 module _ (rs ts : List Record) (same_lowers : AreSame rs ts) where
   -- and its hand is still the record's
@@ -197,8 +197,8 @@ Left f p = AgreeAll (f p.1) p.0.records
 
 left_charge_to : (s : State) (slot : ℕ) (hands : List (Option HandValue)) (h : HandValue) (r : Record) → Good s → AgreeAll hands s.records → slot < length hands → hand_at slot hands ≡ Some h → active_at slot s.records ≡ Some r → IsHandOf slot s.records h r
     → (a b : Bool) (needed wanted : Usage) → Covers needed (count_of h.snapshot.layer) → Covers wanted (count_of h.snapshot.layer) → Left (λ reply. with_hand slot (charged_hand h reply) hands) (charge_to s slot r (if a then Some wanted else if b then Some needed else None))
-left_charge_to s slot hands h r good agree low at stands is true b needed wanted n w = recharges slot wanted hands s.records h r good.chains agree low stands is w
-left_charge_to s slot hands h r good agree low at stands is false true needed wanted n w = recharges slot needed hands s.records h r good.chains agree low stands is n
+left_charge_to s slot hands h r good agree low at stands is true b needed wanted n w = recharges slot wanted hands s.records h r (good_chains s good) agree low stands is w
+left_charge_to s slot hands h r good agree low at stands is false true needed wanted n w = recharges slot needed hands s.records h r (good_chains s good) agree low stands is n
 left_charge_to s slot hands h r good agree low at stands is false false needed wanted n w = stays slot h hands s.records agree at
 
 left_charge : (s : State) (slot : ℕ) (need want : Usage) (hands : List (Option HandValue)) (h : HandValue) (r : Record) → Good s → AgreeAll hands s.records → slot < length hands → hand_at slot hands ≡ Some h → active_at slot s.records ≡ Some r → IsHandOf slot s.records h r
@@ -214,21 +214,21 @@ left_trim : (s : State) (slot : ℕ) (hands : List (Option HandValue)) (h : Hand
     → Left (λ reply. with_hand slot (charged_hand h reply) hands) (trim s slot (Count (count_of h.snapshot.layer)) (active_at slot s.records))
 left_trim s slot hands h r good agree low stands is =
     subst (λ (o : Option Record). Left (λ reply. with_hand slot (charged_hand h reply) hands) (trim s slot (Count (count_of h.snapshot.layer)) o)) (sym stands)
-    (recharges slot (count_of h.snapshot.layer) hands s.records h r good.chains agree low stands is (record { blocks = omega arith; inodes = omega arith }))
+    (recharges slot (count_of h.snapshot.layer) hands s.records h r (good_chains s good) agree low stands is (record { blocks = omega arith; inodes = omega arith }))
 
 left_under : (s : State) (slot : ℕ) (name : Bytes) (lease : Option Bytes) (labels : Option (List Label)) (hands : List (Option HandValue)) (h : HandValue) (r : Record) → Good s → AgreeAll hands s.records → slot < length hands → active_at slot s.records ≡ Some r → IsHandOf slot s.records h r → has_key r.namespace name s.records ≡ false
     → Left (λ reply. with_hand slot (committed_hand h.snapshot reply) hands) (committed_state s slot name lease labels h.snapshot.layer r)
 left_under s slot name lease labels hands h r good agree low stands is new =
     let c : Record = committed_as name labels h.snapshot.layer (s.entries + 1) r in
     let us : List Record = without_slot slot s.records in
-    goes s.records (with_record c us) (same_where s.records (with_record c us) good.chains (Keeps-after s.records us (with_record c us) (Keeps-without_slot slot s.records) (Keeps-with_record c us (has_key-without (is_slot slot) r.namespace name s.records new)))) slot hands agree low
+    goes s.records (with_record c us) (same_where s.records (with_record c us) (good_chains s good) (Keeps-after s.records us (with_record c us) (Keeps-without_slot slot s.records) (Keeps-with_record c us (has_key-without (is_slot slot) r.namespace name s.records new)))) slot hands agree low
     (active_at-committed_own slot name labels h.snapshot.layer (s.entries + 1) s.records r good.slots) (λ k ne. active_at-committed_other slot k name labels h.snapshot.layer (s.entries + 1) s.records r ne)
 
 left_commit : (s : State) (slot : ℕ) (name : Bytes) (lease : Option Bytes) (labels : Option (List Label)) (hands : List (Option HandValue)) (h : HandValue) (r : Record) → Good s → AgreeAll hands s.records → slot < length hands → active_at slot s.records ≡ Some r → IsHandOf slot s.records h r
     → Left (λ reply. with_hand slot (committed_hand h.snapshot reply) hands) (commit_as s slot name lease labels h.snapshot.layer (active_at slot s.records))
 left_commit s slot name lease labels hands h r good agree low stands is =
     let f : Reply → List (Option HandValue) = λ reply. with_hand slot (committed_hand h.snapshot reply) hands in
-    let refuses = seals slot hands s.records h r good.chains agree low stands is in
+    let refuses = seals slot hands s.records h r (good_chains s good) agree low stands is in
     subst (λ (o : Option Record). Left f (commit_as s slot name lease labels h.snapshot.layer o)) (sym stands)
     (cases_if (Left f) (are_formed name lease labels) _ _
     (λ formed. cases_if (Left f) (has_key r.namespace name s.records) _ _ (λ taken. refuses)
@@ -239,7 +239,7 @@ left_discard : (s : State) (slot : ℕ) (hands : List (Option HandValue)) (r : R
     → Left (λ reply. with_hand slot None hands) (discard s slot (active_at slot s.records))
 left_discard s slot hands r good agree low stands =
     subst (λ (o : Option Record). Left (λ reply. with_hand slot None hands) (discard s slot o)) (sym stands)
-    (goes s.records (without_slot slot s.records) (same_where s.records (without_slot slot s.records) good.chains (Keeps-without_slot slot s.records)) slot hands agree low (active_at-without_slot_own slot s.records good.slots) (λ k ne. active_at-without_slot_other slot k s.records ne))
+    (goes s.records (without_slot slot s.records) (same_where s.records (without_slot slot s.records) (good_chains s good) (Keeps-without_slot slot s.records)) slot hands agree low (active_at-without_slot_own slot s.records good.slots) (λ k ne. active_at-without_slot_other slot k s.records ne))
 
 -- ---- other calls
 
@@ -272,7 +272,7 @@ left_view_at s namespace key parent labels place hands good agree is =
     let new : Record = new_record s place key parent labels (View (shown_layers place parent s.records)) in
     let ts : List Record = with_record new s.records in
     cases_if (Left (λ reply. hands)) (nat_le s.next_id most_number) _ _
-    (λ few. agree_on s.records ts (same_where s.records ts good.chains (Keeps-with_record new s.records is.free)) hands agree (λ k. active_at-with_record_other k new s.records refl))
+    (λ few. agree_on s.records ts (same_where s.records ts (good_chains s good) (Keeps-with_record new s.records is.free)) hands agree (λ k. active_at-with_record_other k new s.records refl))
     (λ spent. agree)
 
 left_view : (s : State) (hands : List (Option HandValue)) (namespace key parent : Bytes) (labels : List Label) → Good s → AgreeAll hands s.records → Left (λ reply. hands) (prepare_view s namespace key parent labels)
@@ -285,7 +285,7 @@ left_remove_record s hands namespace key place r good e agree =
     cases_if (Left (λ reply. hands)) (has_children place key s.records) _ _ (λ some. agree)
     (λ childless. cases_if (Left (λ reply. hands)) (is_active r.content) _ _ (λ active. agree)
     (λ idle. cases_if (Left (λ reply. hands)) _ _ _ (λ leased. agree)
-    (λ unleased. agree_on s.records (without_key place key s.records) (same_without s.records place key good.chains childless) hands agree (λ k. active_at-without_idle k (is_named place key) s.records r e idle))))
+    (λ unleased. agree_on s.records (without_key place key s.records) (same_without s.records place key (good_chains s good) childless) hands agree (λ k. active_at-without_idle k (is_named place key) s.records r e idle))))
 
 left_remove : (s : State) (hands : List (Option HandValue)) (namespace key : Bytes) → Good s → AgreeAll hands s.records → Left (λ reply. hands) (remove s namespace key)
 left_remove s hands namespace key good agree = cases_if (Left (λ reply. hands)) (is_key key) _ _ (λ formed. left_at_record s hands namespace key _ agree (λ place r e. left_remove_record s hands namespace key place r good e agree)) (λ bad. agree)
@@ -358,8 +358,8 @@ left_room s namespace key parent labels place slot hands good agree places is fo
     let own : is_slot slot new ≡ true = Active-is_slot slot one new refl in
     let low : slot < length hands = (let p = lowest.0 in omega (arith, places)) in
     let hand : HandValue = new_hand s.layer_inodes key parent s.records s.next_id slot place in
-    let same : layers_of (ancestors place parent s.records) ≡ layers_of (ancestors place parent ts) = ap layers_of (sym (keeps-ancestors Every s.records ts (every s.records ts keeps) place parent (on_parent Every place parent tt) (chain-found s.records place parent is.deep))) in
-    agree_set s.records ts (same_where s.records ts good.chains keeps) slot (Some hand) hands agree low
+    let same : layers_of (ancestors place parent s.records) ≡ layers_of (ancestors place parent ts) = ap layers_of (sym (keeps-ancestors Every s.records ts (every s.records ts keeps) place parent (on_parent Every place parent tt) (chain-found most_ancestors s.records place parent (good_deep s good place parent is.deep)))) in
+    agree_set s.records ts (same_where s.records ts (good_chains s good) keeps) slot (Some hand) hands agree low
     (subst (λ (x : Option Record). AgreesAt slot ts (Some hand) x) (sym (active_at-with_record_own slot new s.records own lowest.1))
     (record { namespace = refl; key = refl; lowers = same; slot = refl; id = refl; usage = refl; covers = record { blocks = omega arith; inodes = omega arith } }))
     (λ k ne. active_at-with_record_other k new s.records (is_slot-other slot k new ne own))
@@ -460,7 +460,7 @@ fits_called w n (calls.Commit slot id name lease labels) fit =
     fits_on_hand w slot (is_under id) _ fit
     (λ h r inside at stands is test.
     fits_admitted w 1 (with_hand slot (Some (sealed_hand h.snapshot)) w.hands) _
-    (record { good = fit.good; began = fit.began; replays = fit.replays; places = set_places w slot _ fit; hands = seals slot w.hands w.state.records h r fit.good.chains fit.hands inside stands is })
+    (record { good = fit.good; began = fit.began; replays = fit.replays; places = set_places w slot _ fit; hands = seals slot w.hands w.state.records h r (good_chains w.state fit.good) fit.hands inside stands is })
     (fits_recorded w n (calls.Commit slot id name lease labels) (Layer h.snapshot.layer) (λ reply. with_hand slot (committed_hand h.snapshot reply) w.hands) fit (covered_under w slot id h r stands is test) (λ reply. set_places w slot _ fit)
     (left_commit w.state slot name lease labels w.hands h r fit.good fit.hands inside stands is)))
 fits_called w n (calls.Discard slot id) fit =
@@ -544,7 +544,7 @@ fits_sealed w slot fit = at (hand_at slot w.hands) refl
     at None e = subst (λ (l : List (Option HandValue)). Fits (record w { hands = l })) (sym (with_hand-again slot None w.hands e)) fit
     at (Some h) e =
         let r = holds w slot h fit e in
-        record { good = fit.good; began = fit.began; replays = fit.replays; places = set_places w slot _ fit; hands = seals slot w.hands w.state.records h r.0 fit.good.chains fit.hands (hand_at-low slot h w.hands e) r.1 r.2 }
+        record { good = fit.good; began = fit.began; replays = fit.replays; places = set_places w slot _ fit; hands = seals slot w.hands w.state.records h r.0 (good_chains w.state fit.good) fit.hands (hand_at-low slot h w.hands e) r.1 r.2 }
 
 fits_left : (w v : WorldValue) (call : Call) → Fits w → IsLeft w call v → Fits v
 fits_left w v (calls.Charge slot id need want) fit h = subst Fits (sym h.2) fit

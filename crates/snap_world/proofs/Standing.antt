@@ -14,6 +14,7 @@ use Rattle.snap_call.specs.Good.{IsShown}
 use Rattle.snap_call.specs.Records.{active_at, has_slot, is_named, is_slot, record_at, AllPairwise, AreApart}
 use Rattle.snap_call.specs.State.{chain_from, place_of, most_ancestors}
 use Rattle.snap_call.specs.declared.state.State.{State}
+use Rattle.snap_call.proofs.Keeping.{good_chains}
 use Rattle.snap_call.proofs.Lists.{record_at-all, some_same}
 use Rattle.snap_book.specs.Slot.{found_of}
 use Rattle.snap_world.specs.World.{AgreesAt, Fits, HandValue, IsHandOf, WorldValue, hand_at}
@@ -52,7 +53,7 @@ module _ (w : WorldValue) (fits : Fits w) (namespace key : Bytes) (r : Record) (
 
   -- it has a chain of ancestors
   pub chained : IsSome (chain_from most_ancestors w.state.records r.namespace r.parent)
-  chained = record_at-all (λ t. IsSome (chain_from most_ancestors w.state.records t.namespace t.parent)) here.0 key w.state.records r here.1 fits.good.chains
+  chained = record_at-all (λ t. IsSome (chain_from most_ancestors w.state.records t.namespace t.parent)) here.0 key w.state.records r here.1 (good_chains w.state fits.good)
 
   -- the hand of an active snapshot stands in its slot, and is that of the key's record
   pub stands : (slot : ℕ) (charged : Usage) → r.content ≡ Active slot charged → (h : HandValue) × (hand_at slot w.hands ≡ Some h) × IsHandOf slot w.state.records h r

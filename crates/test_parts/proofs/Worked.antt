@@ -18,7 +18,7 @@ use Rattle.snap_history.specs.declared.info.EntryInfo.{EntryInfo}
 use Rattle.test_parts.specs.Worked.{charged, made, opened, small_round, usage}
 
 abbrev config : Config
-config = record { root = 47 ∷ 114 ∷ []; namespaces = record { name = 97 ∷ []; limit = usage 10 10 } ∷ []; slots = default_slots; journal = 100; first_id = 1; layer_inodes = 65536 }
+config = record { root = 47 ∷ 114 ∷ []; namespaces = record { name = 97 ∷ []; limit = usage 10 10 } ∷ []; slots = default_slots; journal = 100; first_id = 1; layer_inodes = 65536; ancestors = 64 }
 
 abbrev start : State
 start = opening config

@@ -54,7 +54,7 @@ used blocks inodes = record { blocks = blocks; inodes = inodes }
 
 -- a store of the namespace a with the limit 10/5, and a journal of 100 entries
 abbrev pub first_config : Config
-first_config = record { root = codes "/r"; namespaces = record { name = codes "a"; limit = used 10 5 } ∷ []; slots = 64; journal = 100; first_id = 1; layer_inodes = 65536 }
+first_config = record { root = codes "/r"; namespaces = record { name = codes "a"; limit = used 10 5 } ∷ []; slots = 64; journal = 100; first_id = 1; layer_inodes = 65536; ancestors = 64 }
 
 -- the entry of a charge to an amount
 abbrev pub charge_by : ℕ → ℕ → ℕ → Usage → Entry

@@ -9,7 +9,7 @@ use Rattle.snap_call.specs.Step.{step}
 
 -- one namespace, a, with 100 blocks and 100 inodes
 abbrev pub one_namespace : Config
-one_namespace = record { root = codes "/r"; namespaces = record { name = codes "a"; limit = record { blocks = 100; inodes = 100 } } ∷ []; slots = 64; journal = 100; first_id = 1; layer_inodes = 65536 }
+one_namespace = record { root = codes "/r"; namespaces = record { name = codes "a"; limit = record { blocks = 100; inodes = 100 } } ∷ []; slots = 64; journal = 100; first_id = 1; layer_inodes = 65536; ancestors = 64 }
 
 -- a new store
 abbrev pub new_store : State

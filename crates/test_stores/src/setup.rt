@@ -40,7 +40,7 @@ pub fn path<R: Abort>(rt: &R, alloc: Global, text: &str) -> Path {
 
 /// The namespace a with the limit, and a journal of so many entries.
 pub fn config<R: Abort>(rt: &R, alloc: Global, limit: Usage, journal: u64) -> Config
-    ensures { result ≡ record { root = codes "/r"; namespaces = record { name = codes "a"; limit = limit } ∷ []; slots = 64; journal = journal; first_id = 1; layer_inodes = 65536 } }
+    ensures { result ≡ record { root = codes "/r"; namespaces = record { name = codes "a"; limit = limit } ∷ []; slots = 64; journal = journal; first_id = 1; layer_inodes = 65536; ancestors = 64 } }
 {
     let mut namespaces = Sequence::new(alloc);
     let name = text(rt, alloc, "a");
@@ -53,6 +53,7 @@ pub fn config<R: Abort>(rt: &R, alloc: Global, limit: Usage, journal: u64) -> Co
         journal,
         first_id: 1,
         layer_inodes: 65_536,
+        ancestors: 64,
     }
 }
 

@@ -4,7 +4,8 @@ use Rattle.snap_path.specs.Limits.{most_number}
 use Rattle.snap_call.specs.declared.refusal.Refusal.{Refusal}
 use Rattle.snap_call.specs.declared.reply.Reply.TheVariants.{Prepared}
 use Rattle.snap_call.specs.declared.state.State.{State}
-use Rattle.snap_call.specs.State.{ancestors, ids_of, is_too_deep, layers_of}
+use Rattle.snap_call.specs.State.{ancestors, ids_of, is_too_deep, layers_of, most_ancestors}
+use Rattle.snap_call.proofs.Keeping.{good_deep}
 use Rattle.snap_accounts.specs.declared.prepare.Vacancy.{Vacancy}
 use Rattle.snap_book.specs.Book.{prepare_reply}
 use Rattle.snap_book.proofs.prepare.reply_to.Goals as goal
@@ -13,8 +14,8 @@ pub chain-requires : goal.chain-requires
 chain-requires g c =
     let s = c.args.accounts.now in
     let parent = c.args.parent.now in
-    let fits = subst (λ (f : Result Vacancy Refusal). IfOk f (λ v. (is_too_deep v.place parent s.records ≡ false) × (s.next_id ≤ most_number))) c.in-Ok.is c.requires in
-    ap (λ (t : State). is_too_deep c.in-Ok.vacancy.place parent t.records) c.state-state.ensures.same ∙ fits.0
+    let fits = subst (λ (f : Result Vacancy Refusal). IfOk f (λ v. (is_too_deep s.ancestors v.place parent s.records ≡ false) × (s.next_id ≤ most_number))) c.in-Ok.is c.requires in
+    ap (λ (t : State). is_too_deep most_ancestors c.in-Ok.vacancy.place parent t.records) c.state-state.ensures.same ∙ good_deep s c.state-state.ensures.good c.in-Ok.vacancy.place parent fits.0
 
 pub returns-clause-reply : goal.returns-clause-reply
 returns-clause-reply g c =

@@ -66,7 +66,7 @@ invariant_of-self-2 g c =
     (subst (λ (u : State). place < length u.namespaces) (sym view) c.requires.vacant.site.inside)
     (ap (λ (u : State). has_key place key u.records) view ∙ c.requires.vacant.site.new)
     (ap (λ (u : State). is_base place parent u.records) view ∙ c.requires.vacant.site.base)
-    (ap (λ (u : State). is_too_deep place parent u.records) view ∙ c.requires.vacant.site.deep)
+    (ap (λ (u : State). is_too_deep u.ancestors place parent u.records) view ∙ c.requires.vacant.site.deep)
     (subst (λ (u : State). slot < u.slots) (sym view) c.requires.vacant.low)
     c.requires.vacant.few
     (ap (λ (u : State). active_at slot u.records) view ∙ c.requires.vacant.free)

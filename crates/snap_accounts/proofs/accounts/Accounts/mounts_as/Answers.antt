@@ -3,14 +3,14 @@ use Rattle.std.specs.Prelude.{IfOk}
 use Rattle.snap_record.specs.Labels.{Bytes}
 use Rattle.snap_mount.specs.Mounts.{mounts_of}
 use Rattle.snap_call.specs.declared.state.State.{State}
-use Rattle.snap_call.specs.State.{ancestors, ids_of, is_too_deep}
+use Rattle.snap_call.specs.State.{ancestors, ids_of, is_too_deep, most_ancestors}
 use Rattle.snap_accounts.proofs.accounts.Accounts.mounts_as.Goals as goal
 
 pub chain_ids-requires : goal.chain_ids-requires
 chain_ids-requires g c =
     let r = c.args.snapshot.now in
-    ap (λ (p : Bytes). is_too_deep r.namespace p c.state-state.result.now.records) c.as_str-parent.ensures
-    ∙ (ap (λ (u : State). is_too_deep r.namespace r.parent u.records) c.state-state.ensures.same ∙ c.requires.deep)
+    ap (λ (p : Bytes). is_too_deep most_ancestors r.namespace p c.state-state.result.now.records) c.as_str-parent.ensures
+    ∙ (ap (λ (u : State). is_too_deep most_ancestors r.namespace r.parent u.records) c.state-state.ensures.same ∙ c.requires.deep)
 
 pub returns : goal.returns
 returns g c =

@@ -6,11 +6,14 @@ use Rattle.snap_call.specs.declared.reply.Reply.TheVariants.{Viewed}
 use Rattle.snap_call.specs.declared.state.State.{State}
 use Rattle.snap_call.specs.State.{ancestors, ids_of, is_too_deep, or_empty, shown_layers}
 use Rattle.snap_call.specs.Step.{added, new_record}
+use Rattle.snap_call.proofs.Keeping.{good_deep}
 use Rattle.snap_accounts.specs.Changes.{IsNewView}
 use Rattle.snap_accounts.proofs.accounts.Accounts.view_at.Goals as goal
 
 pub chain-requires : goal.chain-requires
-chain-requires g c = ap (λ (u : State). is_too_deep c.args.place c.args.parent.now u.records) c.self.view_is ∙ c.requires.site.deep
+chain-requires g c =
+    good_deep c.self.inside.state c.self.invariant.good c.args.place c.args.parent.now
+    (ap (λ (u : State). is_too_deep u.ancestors c.args.place c.args.parent.now u.records) c.self.view_is ∙ c.requires.site.deep)
 
 pub returns-clause-reply : goal.returns-clause-reply
 returns-clause-reply g c =

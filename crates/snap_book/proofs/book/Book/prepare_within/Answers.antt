@@ -20,7 +20,7 @@ use Rattle.snap_book.proofs.Keeping.{kept_push, recorded_push}
 use Rattle.snap_book.proofs.book.Book.prepare_within.Goals as goal
 
 -- where it is granted, the chain leaves room, and there is an id
-has_chain : (s : State) (key parent : Bytes) (found : Result Vacancy Refusal) → IfOk found (λ v. IsVacant s v key parent) → IfOk found (λ v. (is_too_deep v.place parent s.records ≡ false) × (s.next_id ≤ most_number))
+has_chain : (s : State) (key parent : Bytes) (found : Result Vacancy Refusal) → IfOk found (λ v. IsVacant s v key parent) → IfOk found (λ v. (is_too_deep s.ancestors v.place parent s.records ≡ false) × (s.next_id ≤ most_number))
 has_chain s key parent (Ok v) vacant = (vacant.site.deep, vacant.site.numbers)
 has_chain s key parent (Err why) vacant = tt
 

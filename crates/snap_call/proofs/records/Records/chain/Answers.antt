@@ -1,5 +1,6 @@
+use Rattle.snap_call.specs.State.{most_ancestors}
 use Rattle.snap_call.proofs.Chains.{chain-found}
 use Rattle.snap_call.proofs.records.Records.chain.Goals as goal
 
 pub put_chain-requires : goal.put_chain-requires
-put_chain-requires c = chain-found c.args.self.now c.args.place c.args.parent.now c.requires
+put_chain-requires c = chain-found most_ancestors c.args.self.now c.args.place c.args.parent.now c.requires

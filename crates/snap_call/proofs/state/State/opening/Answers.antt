@@ -9,8 +9,8 @@ use Rattle.snap_call.proofs.state.State.opening.Goals as goal
 pub returns-clause-good : goal.returns-clause-good
 returns-clause-good c = λ valid.
     let config = c.args.config in
-    let state : State = record { root = config.root; namespaces = config.namespaces; slots = config.slots; records = c.new.result; leases = c.new-2.result; next_id = config.first_id; sessions = 0; entries = 0; layer_inodes = config.layer_inodes } in
-    let same : state ≡ opening config = λ i. record { root = config.root; namespaces = config.namespaces; slots = config.slots; records = c.new.ensures i; leases = c.new-2.ensures i; next_id = config.first_id; sessions = 0; entries = 0; layer_inodes = config.layer_inodes } in
+    let state : State = record { root = config.root; namespaces = config.namespaces; slots = config.slots; records = c.new.result; leases = c.new-2.result; next_id = config.first_id; sessions = 0; entries = 0; layer_inodes = config.layer_inodes; ancestors = config.ancestors } in
+    let same : state ≡ opening config = λ i. record { root = config.root; namespaces = config.namespaces; slots = config.slots; records = c.new.ensures i; leases = c.new-2.ensures i; next_id = config.first_id; sessions = 0; entries = 0; layer_inodes = config.layer_inodes; ancestors = config.ancestors } in
     subst Good (sym same) (good_opening config valid)
 
 pub returns-clause-keeps : goal.returns-clause-keeps

@@ -33,8 +33,8 @@ chain-requires g c =
     let f = c.in-Ok.found.now in
     let found = ap (λ (x : WorldValue). found_of x.state c.args.namespace.now c.args.key.now) (sym c.self.view_is) ∙ c.in-Ok.ensures.found in
     let records = c.records-records.ensures.records ∙ ap (λ (x : WorldValue). x.state.records) c.self.view_is in
-    subst (λ (rs : List Record). is_too_deep f.namespace c.as_str.result.now rs ≡ false) (sym records)
-    (subst (λ (p : Bytes). is_too_deep f.namespace p w.state.records ≡ false) (sym c.as_str.ensures)
+    subst (λ (rs : List Record). is_too_deep most_ancestors f.namespace c.as_str.result.now rs ≡ false) (sym records)
+    (subst (λ (p : Bytes). is_too_deep most_ancestors f.namespace p w.state.records ≡ false) (sym c.as_str.ensures)
     (not_deep (chain_from most_ancestors w.state.records f.namespace f.parent) (chained w fits c.args.namespace.now c.args.key.now f found)))
 
 pub returns-in_ok-chain-in-Committed : goal.returns-in_ok-chain-in-Committed
