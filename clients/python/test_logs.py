@@ -257,9 +257,9 @@ class Logs(unittest.TestCase):
             open_store(log="/dev/null")
 
     def test_open_or_new(self) -> None:
-        def begin(root: str = "/r", limit: int = 9, journal: int | None = 50, names: str = "ab") -> Store:
+        def begin(root: str = "/r", limit: int = 9, journal: int | None = 50, names: str = "ab", most: int = 3) -> Store:
             limits = {name: (limit, limit) for name in names}
-            return Store.open_or_new(root, limits, journal, program=PROGRAM, log=self.log)
+            return Store.open_or_new(root, limits, journal, ancestors=most, program=PROGRAM, log=self.log)
 
         for empty in (None, "", "\0"):
             if empty is not None:
@@ -270,7 +270,7 @@ class Logs(unittest.TestCase):
         with begin(names="ba") as store:
             self.assertEqual(store.quota("a").limit, Usage(5, 5))
         text = self.log.read_bytes()
-        for other in ({"root": "/s"}, {"limit": 5}, {"journal": None}, {"names": "a"}):
+        for other in ({"root": "/s"}, {"limit": 5}, {"journal": None}, {"names": "a"}, {"most": 4}):
             with self.subTest(other), self.assertRaises(pibroulez.BadLog):
                 begin(**other)  # type: ignore[arg-type]
             self.assertEqual(self.log.read_bytes(), text)

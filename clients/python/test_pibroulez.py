@@ -364,6 +364,26 @@ class Commands(unittest.TestCase):
             with self.assertRaises(pibroulez.TooManyActives):
                 store.prepare("a", "l", "")
 
+    def test_ancestors_of_a_store(self) -> None:
+        """In a store of two ancestors a snapshot stands on the second layer, and none on the third."""
+        with open_store(ancestors=2) as store:
+            for name, parent in (("1", ""), ("2", "1"), ("3", "2")):
+                commit_empty(store, name, parent)
+            self.assertEqual(store.prepare("a", "k", "2"), Prepared((2, 1), 4, 0))
+            for call in (store.prepare, store.view):
+                with self.assertRaises(pibroulez.TooDeep):
+                    call("a", "l", "3")
+
+    def test_most_ancestors(self) -> None:
+        """A store of 500 ancestors allows as many."""
+        with open_store(1000, 1000, ancestors=500) as store:
+            commit_empty(store, "0")
+            for n in range(1, 501):
+                commit_empty(store, str(n), str(n - 1))
+            self.assertEqual(len(store.prepare("a", "k", "499").chain), 500)
+            with self.assertRaises(pibroulez.TooDeep):
+                store.view("a", "v", "500")
+
 
 class Documents(unittest.TestCase):
     """What docs/SCRIPT.md has in its sections on commands and on logs."""
@@ -440,6 +460,10 @@ class Refusals(unittest.TestCase):
         with self.assertRaises(pibroulez.BadArgument) as refused:
             Store("/r", {"": (1, 1)}, program=PROGRAM)
         self.assertEqual(refused.exception.field, "namespaces")
+        for most in (0, 501):
+            with self.subTest(most), self.assertRaises(pibroulez.BadArgument) as refused:
+                open_store(ancestors=most)
+            self.assertEqual(refused.exception.field, "ancestors")
         self.assert_refused(pibroulez.JournalFull, "book", lambda: open_store(journal=0))
 
     def test_world(self) -> None:
@@ -461,7 +485,7 @@ class Refusals(unittest.TestCase):
             self.assertEqual(caught.exception.free, Usage(3, 1))
 
     def test_depth(self) -> None:
-        """A snapshot on 64 ancestors is made, and none on it."""
+        """Where nothing is said, a snapshot on 64 ancestors is made, and none on it."""
         with open_store() as store:
             commit_empty(store, "0")
             for n in range(1, 65):

@@ -77,7 +77,7 @@ class LeaseExists(Refused):
 
 
 class TooDeep(Refused):
-    """The snapshot would have more than 64 ancestors."""
+    """The snapshot would have more committed ancestors than the store allows (`ancestors`, 64)."""
 
 
 class TooManyActives(Refused):

@@ -95,6 +95,7 @@ class Store(Snapshots, Files):
         *,
         slots: int | None = None,
         layer_inodes: int | None = None,
+        ancestors: int | None = None,
         program: StrPath = PROGRAM,
         log: StrPath | None = None,
         roll_when_full: bool = False,
@@ -102,7 +103,8 @@ class Store(Snapshots, Files):
         """Opens a store with namespaces and their limits, and, where a log is named, begins that.
 
         `slots` is how many snapshots may be active at one time, of all namespaces together: 1 to 4096, and 64
-        where it is left out.
+        where it is left out. `layer_inodes` is the most inodes of each layer: 1 to 16,777,216, and 65,536 where it is
+        left out. `ancestors` is the most committed ancestors of a snapshot: 1 to 500, and 64 where it is left out.
 
         With `roll_when_full` a call that finds the journal full begins the next round, as `roll` does, of as many
         entries as the store is opened with (`journal`), and is made once more. The entries of the round before and its
@@ -114,7 +116,8 @@ class Store(Snapshots, Files):
         where the file is no log, BlockingIOError where another process has it, and LogFailed where its sync fails. A
         file that has text stays as it was. A log without a line may be left, on which a store can be begun.
         """
-        line = _opening(root, namespaces, journal=journal, slots=slots, layer_inodes=layer_inodes)
+        bounds = {"journal": journal, "slots": slots, "layer_inodes": layer_inodes, "ancestors": ancestors}
+        line = _opening(root, namespaces, **bounds)
         if log is not None:
             _find(log, create=True)
         connection = Connection(Process(program, log))
@@ -163,6 +166,7 @@ class Store(Snapshots, Files):
         log: StrPath,
         slots: int | None = None,
         layer_inodes: int | None = None,
+        ancestors: int | None = None,
         program: StrPath = PROGRAM,
         roll_when_full: bool = False,
     ) -> Store:
@@ -171,7 +175,7 @@ class Store(Snapshots, Files):
         Raises what `from_log` and `Store` raise, and BadLog where the log's store was opened with other values than
         these. Limits that were changed later don't count.
         """
-        bounds = {"journal": journal, "slots": slots, "layer_inodes": layer_inodes}
+        bounds = {"journal": journal, "slots": slots, "layer_inodes": layer_inodes, "ancestors": ancestors}
         line = _opening(root, namespaces, **bounds)
         _find(log, create=True)
         connection = Connection(Process(program, log))
