@@ -61,7 +61,7 @@ const (
 	ErrNoLease Reason = "NoLease"
 	// ErrLeaseExists: the lease's name is taken.
 	ErrLeaseExists Reason = "LeaseExists"
-	// ErrTooDeep: the snapshot would have more than 64 ancestors.
+	// ErrTooDeep: the snapshot would have more committed ancestors than the store allows (Config.Ancestors).
 	ErrTooDeep Reason = "TooDeep"
 	// ErrTooManyActives: as many snapshots are active as the store was opened for.
 	ErrTooManyActives Reason = "TooManyActives"

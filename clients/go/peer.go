@@ -125,7 +125,8 @@ func (c Config) otherThanSocket() string {
 		isGiven bool
 	}{
 		{"Program", c.Program != ""}, {"Root", c.Root != ""}, {"Namespaces", c.Namespaces != nil}, {"Journal", c.Journal != 0},
-		{"Slots", c.Slots != 0}, {"LayerInodes", c.LayerInodes != 0}, {"Log", c.Log != ""},
+		{"Slots", c.Slots != 0}, {"LayerInodes", c.LayerInodes != 0}, {"Ancestors", c.Ancestors != 0},
+		{"Log", c.Log != ""},
 	} {
 		if it.isGiven {
 			return it.name

@@ -46,6 +46,8 @@ type Config struct {
 	Slots uint64
 	// LayerInodes is the most inodes of each layer that is made, or the default, 65,536, where it is 0.
 	LayerInodes uint64
+	// Ancestors is the most committed ancestors of a snapshot: 1 to 500, or 64 where it is 0.
+	Ancestors uint64
 	// Log is the path of a file in which the process keeps the calls, or empty for none. For New it must have no store yet.
 	// An empty file of this name and `-wal` more is made beside it.
 	Log string
@@ -128,6 +130,9 @@ func (c Config) fields() fields {
 	}
 	if c.LayerInodes != 0 {
 		given["layer_inodes"] = c.LayerInodes
+	}
+	if c.Ancestors != 0 {
+		given["ancestors"] = c.Ancestors
 	}
 	return given
 }

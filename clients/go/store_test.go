@@ -406,6 +406,27 @@ func TestSlots(t *testing.T) {
 	}
 }
 
+func TestAncestors(t *testing.T) {
+	if given, there := (Config{}).fields()["ancestors"]; there {
+		t.Errorf("ancestors are %v", given)
+	}
+	limits := map[string]Usage{"a": {100, 100}}
+	_, err := New(ctx, Config{Program: program(), Root: "/r", Namespaces: limits, Ancestors: 501})
+	isError(t, err, ErrBadArgument)
+	if refusal := new(Refusal); !errors.As(err, &refusal) || refusal.Field != "ancestors" {
+		t.Errorf("%v: the field is not ancestors", err)
+	}
+	store := newStoreOf(t, Config{Program: program(), Root: "/r", Namespaces: limits, Ancestors: 2})
+	for n, parent := range []string{"", "1", "2"} {
+		commitEmpty(t, store, fmt.Sprint(n+1), parent)
+	}
+	equal(t, must[Prepared](t)(store.Prepare(ctx, "a", "k", "2")).Chain, []uint64{2, 1})
+	_, err = store.Prepare(ctx, "a", "l", "3")
+	isError(t, err, ErrTooDeep)
+	_, err = store.View(ctx, "a", "v", "3")
+	isError(t, err, ErrTooDeep)
+}
+
 // Of three entries the session and the prepare take one each, and the discard keeps the last.
 func TestJournalFull(t *testing.T) {
 	limits := map[string]Usage{"a": {1, 1}}

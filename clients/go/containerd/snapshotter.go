@@ -33,6 +33,10 @@ const mostActive = 4096
 // How many inodes a layer may have: as many as a store's may.
 const mostLayerInodes = 1 << 24
 
+// How many committed ancestors a snapshot may have: as many as a store allows, and as many lower layers as the kernel's
+// overlay takes.
+const mostAncestors = 500
+
 // How many snapshots a page of a walk has.
 const pageSize = 64
 
@@ -201,6 +205,7 @@ func (c Config) ofStore(root, log string) pibroulez.Config {
 		Namespaces:  namespaces,
 		Slots:       mostActive,
 		LayerInodes: mostLayerInodes,
+		Ancestors:   mostAncestors,
 		Journal:     c.journal,
 		Log:         log,
 	}

@@ -3,7 +3,6 @@ package containerd
 import (
 	"context"
 	"errors"
-	"flag"
 	"fmt"
 	"os"
 	"path/filepath"
@@ -23,21 +22,12 @@ import (
 
 var ctx = context.Background()
 
-// containerd's suite has no list of cases to leave out, so the names of the subtests are matched. Its one case whose
-// name begins with a digit is 128LayersMount, which wants 128 layers: a snapshot has at most 64 ancestors.
-// TestSixtyFourAncestors has as many as there may be.
-const allButOne = "./^[^1]"
-
 func TestMain(m *testing.M) {
 	if os.Getenv(relays) != "" {
 		relay()
 	}
 	if root := os.Getenv(killedRoot); root != "" {
 		callUntilKilled(root)
-	}
-	flag.Parse()
-	if run := flag.Lookup("test.run"); run.Value.String() == "" {
-		run.Value.Set(allButOne)
 	}
 	os.Exit(m.Run())
 }
@@ -99,15 +89,15 @@ func TestSuite(t *testing.T) {
 	})
 }
 
-// A chain of 64 committed snapshots is mounted with an active one on it, and as a view. It shows each layer's file, and
-// the last one's where all have the same. The 65th ancestor is refused.
-func TestSixtyFourAncestors(t *testing.T) {
+// A chain of 500 committed snapshots is mounted with an active one on it, and as a view. It shows each layer's file, and
+// the last one's where all have the same. The 501st ancestor is refused.
+func TestMostAncestors(t *testing.T) {
 	requiresRoot(t)
 	t.Parallel()
 	s := newSnapshotter(t, t.TempDir())
 	flat := t.TempDir()
 	parent := ""
-	for n := 1; n <= 65; n++ {
+	for n := 1; n <= mostAncestors+1; n++ {
 		layer := fstest.Apply(
 			fstest.CreateFile("/same", []byte(fmt.Sprint(n)), 0o644),
 			fstest.CreateFile(fmt.Sprintf("/own-%d", n), nil, 0o644),
@@ -124,11 +114,11 @@ func TestSixtyFourAncestors(t *testing.T) {
 	if !errdefs.IsFailedPrecondition(err) || !errors.Is(err, pibroulez.ErrTooDeep) {
 		t.Errorf("%v, not too deep", err)
 	}
-	granted(t, fstest.Apply(fstest.RemoveAll("/own-65"), fstest.CreateFile("/same", []byte("64"), 0o644)).Apply(flat))
+	granted(t, fstest.Apply(fstest.RemoveAll("/own-501"), fstest.CreateFile("/same", []byte("500"), 0o644)).Apply(flat))
 	for kind, make := range map[string]func(context.Context, string, string, ...snapshots.Opt) ([]mount.Mount, error){
 		"view": s.View, "active": s.Prepare,
 	} {
-		mounts, err := make(ctx, kind, "64")
+		mounts, err := make(ctx, kind, "500")
 		granted(t, err)
 		inMount(t, mounts, func(target string) { granted(t, fstest.CheckDirectoryEqual(target, flat)) })
 	}
@@ -140,6 +130,27 @@ func inMount(t *testing.T, mounts []mount.Mount, do func(target string)) {
 	granted(t, mount.All(mounts, target))
 	defer testutil.Unmount(t, target)
 	do(target)
+}
+
+// A store that was opened with a number of its own has that: a root of version 0.1.0 has 64.
+func TestAncestorsOfALog(t *testing.T) {
+	root := t.TempDir()
+	config := Config{Program: program(), Root: root}.ofStore(root, filepath.Join(root, LogFile))
+	config.Ancestors = 2
+	store, err := pibroulez.New(ctx, config)
+	granted(t, err)
+	granted(t, store.Close())
+	s := newSnapshotter(t, root)
+	for n, parent := range []string{"", "1", "2"} {
+		commit(t, s, fmt.Sprint(n+1), parent)
+	}
+	for _, make := range []func(context.Context, string, string, ...snapshots.Opt) ([]mount.Mount, error){s.Prepare, s.View} {
+		if _, err := make(ctx, "deep", "3"); !errdefs.IsFailedPrecondition(err) || !errors.Is(err, pibroulez.ErrTooDeep) {
+			t.Errorf("%v, not too deep", err)
+		}
+	}
+	_, err = s.Prepare(ctx, "active", "2")
+	granted(t, err)
 }
 
 // A snapshotter that is made again has the same snapshots, with their times, and the same directories.

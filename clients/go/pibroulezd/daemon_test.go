@@ -49,7 +49,7 @@ func TestReadAgain(t *testing.T) {
 	p := newPlace(t)
 	p.configure(t, tenant("a", 100, 100)+tenant("b", 5, 5))
 	it := p.start(t)
-	p.configure(t, "slots = 7\n"+tenant("a", 60, 70)+tenant("c", 1, 1))
+	p.configure(t, "slots = 7\nancestors = 64\n"+tenant("a", 60, 70)+tenant("c", 1, 1))
 	it.readAgain(t)
 	p.configure(t, "slots = 0\n"+tenant("a", 1, 1))
 	it.readAgain(t)
@@ -57,7 +57,7 @@ func TestReadAgain(t *testing.T) {
 	it.readAgain(t)
 	it.end(t)
 	for _, want := range []string{
-		"slots: it can't change while the daemon runs: 4096 stays", "tenants.b: a tenant stays", "tenants.c: a store has the tenants",
+		"slots: it can't change while the daemon runs: 4096 stays", "ancestors: it can't change while the daemon runs: 500 stays", "tenants.b: a tenant stays", "tenants.c: a store has the tenants",
 		":3: slots: a number from 1 to 4096 is wanted", "no such file",
 	} {
 		if !strings.Contains(it.said.String(), want) {

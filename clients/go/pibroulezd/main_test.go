@@ -236,11 +236,12 @@ func TestCheck(t *testing.T) {
 	it.begin(t)
 	equal(t, it.status(t), 0)
 	equal(t, it.said.String(), "")
-	path = p.configure(t, "slots = 0\nslot = 1\n")
+	path = p.configure(t, "slots = 0\nslot = 1\nancestors = 501\n")
 	it = p.command("--check", "--config", path)
 	it.begin(t)
 	equal(t, it.status(t), failed)
-	equal(t, it.said.String(), path+":3: slots: a number from 1 to 4096 is wanted, another number is there\n"+path+":4: slot: no such key\n")
+	equal(t, it.said.String(), path+":3: slots: a number from 1 to 4096 is wanted, another number is there\n"+path+":4: slot: no such key\n"+
+		path+":5: ancestors: a number from 1 to 500 is wanted, another number is there\n")
 	if _, err := os.Stat(p.path("root")); err == nil {
 		t.Error("a check has made the root")
 	}

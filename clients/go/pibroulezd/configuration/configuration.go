@@ -25,6 +25,7 @@ const (
 	mostJournal   = 1 << 20
 	mostSlots     = 4096
 	mostInodes    = 1 << 24
+	mostAncestors = 500
 )
 
 // A store takes at most one part in so many of what is left, beyond its need.
@@ -43,9 +44,9 @@ const (
 type Configuration struct {
 	// Root is the directory that mounts name, Program the path of snap_replay, and Log the file that keeps the calls.
 	Root, Program, Log string
-	// Journal is the most entries of a round, Slots how many snapshots may be active at one time, and LayerInodes the most
-	// inodes of each layer.
-	Journal, Slots, LayerInodes uint64
+	// Journal is the most entries of a round, Slots how many snapshots may be active at one time, LayerInodes the most inodes
+	// of each layer, and Ancestors the most committed ancestors of a snapshot.
+	Journal, Slots, LayerInodes, Ancestors uint64
 	// Lines is the door for builders and quota services, or nil for none.
 	Lines *Lines
 	// Containerd is the door for containerd, or nil for none. Its namespace is among the tenants.
@@ -207,6 +208,7 @@ func (r *reader) configuration(t *table) *Configuration {
 		Journal:     t.number("journal", mostJournal, leastJournal, mostJournal),
 		Slots:       t.number("slots", mostSlots, 1, mostSlots),
 		LayerInodes: t.number("layer_inodes", mostInodes, 1, mostInodes),
+		Ancestors:   t.number("ancestors", mostAncestors, 1, mostAncestors),
 		Tenants:     map[string]Tenant{},
 	}
 	if c.Root == "" && !t.has("root") {

@@ -35,6 +35,7 @@ log = "/srv/log"
 journal = 65536
 slots = 64
 layer_inodes = 1000
+ancestors = 128
 
 [lines]
 socket = "/run/x.sock"
@@ -65,7 +66,7 @@ func TestWhole(t *testing.T) {
 	none := map[uint32]bool{}
 	equal(t, *c, Configuration{
 		Root: "/srv/store", Program: "/usr/local/bin/snap_replay", Log: "/srv/log",
-		Journal: 65536, Slots: 64, LayerInodes: 1000,
+		Journal: 65536, Slots: 64, LayerInodes: 1000, Ancestors: 128,
 		Lines:     &Lines{"/run/x.sock", 0o600, 2048, 7, 5 * time.Second, "/var/log/refusals"},
 		Operators: Members{map[uint32]bool{0: true, 7: true}, none},
 		Quotas:    Members{none, map[uint32]bool{0: true, 8: true}},
@@ -83,7 +84,7 @@ func TestLeftOut(t *testing.T) {
 	members := Members{map[uint32]bool{}, map[uint32]bool{}}
 	equal(t, *c, Configuration{
 		Root: "/r", Program: "snap_replay", Log: "/r/calls.jsonl", Journal: 1048576, Slots: 4096, LayerInodes: 16777216,
-		Tenants: map[string]Tenant{}, Operators: members, Quotas: members,
+		Ancestors: 500, Tenants: map[string]Tenant{}, Operators: members, Quotas: members,
 	})
 	c, err = parse("p", []byte("root = \"/r\"\n[lines]"))
 	granted(t, err)
@@ -110,6 +111,9 @@ func TestFaults(t *testing.T) {
 		{"root = \"/r\"\nslots = \"8\"", "p:2: slots: a number from 1 to 4096 is wanted, another text is there"},
 		{"root = \"/r\"\nslots = 1.5", "p:2: slots: a number from 1 to 4096 is wanted, something else is there"},
 		{"root = \"/r\"\nlayer_inodes = 16777217", "p:2: layer_inodes: a number from 1 to 16777216 is wanted, another number is there"},
+		{"root = \"/r\"\nancestors = 0", "p:2: ancestors: a number from 1 to 500 is wanted, another number is there"},
+		{"root = \"/r\"\nancestors = 501", "p:2: ancestors: a number from 1 to 500 is wanted, another number is there"},
+		{"root = \"/r\"\nancestors = \"64\"", "p:2: ancestors: a number from 1 to 500 is wanted, another text is there"},
 		{"root = \"/r\"\njournal = 65535", "p:2: journal: a number from 65536 to 1048576 is wanted, another number is there"},
 		{"root = \"/r\"\n[tenants]\na = 5", "p:3: tenants.a: a table is wanted, another number is there"},
 		{"root = \"/r\"\n[[tenants]]\nblocks = 1", "p:2: tenants: a table is wanted, an array is there"},
@@ -240,12 +244,12 @@ inodes = 1
 		keys = append(keys, it.Key)
 	}
 	equal(t, keys, []string{
-		"journal", "layer_inodes", "lines", "log", "program", "root", "slots", `tenants."b/c d"`, "tenants.new",
+		"ancestors", "journal", "layer_inodes", "lines", "log", "program", "root", "slots", `tenants."b/c d"`, "tenants.new",
 	})
-	if words := refused[2].Error(); words != "p: lines: it can't change while the daemon runs: the door stays" {
+	if words := refused[3].Error(); words != "p: lines: it can't change while the daemon runs: the door stays" {
 		t.Error(words)
 	}
-	if words := refused[5].Error(); words != "p: root: it can't change while the daemon runs: /srv/store stays" {
+	if words := refused[6].Error(); words != "p: root: it can't change while the daemon runs: /srv/store stays" {
 		t.Error(words)
 	}
 	want := *old

@@ -53,7 +53,8 @@ func (c *Configuration) Next(path string, read *Configuration) (*Configuration, 
 // What can't change while the daemon runs, by its keys. That of a door says whether there is one.
 func (c *Configuration) fixed() map[string]any {
 	all := map[string]any{
-		"root": c.Root, "program": c.Program, "log": c.Log, "journal": c.Journal, "slots": c.Slots, "layer_inodes": c.LayerInodes,
+		"root": c.Root, "program": c.Program, "log": c.Log, "journal": c.Journal, "slots": c.Slots,
+		"layer_inodes": c.LayerInodes, "ancestors": c.Ancestors,
 		"lines": door(c.Lines != nil), "containerd": door(c.Containerd != nil),
 		"watch": door(c.Watch != nil), "cluster": clusterOf(c.Cluster),
 	}

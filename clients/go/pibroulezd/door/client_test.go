@@ -95,7 +95,7 @@ func TestGoClient(t *testing.T) {
 	log := h.path + ".log"
 	for field, config := range map[string]pibroulez.Config{
 		"Program": {Program: program()}, "Root": {Root: "/r"}, "Namespaces": {Namespaces: map[string]pibroulez.Usage{}}, "Journal": {Journal: 1},
-		"Slots": {Slots: 1}, "LayerInodes": {LayerInodes: 1}, "Log": {Log: log},
+		"Slots": {Slots: 1}, "LayerInodes": {LayerInodes: 1}, "Ancestors": {Ancestors: 1}, "Log": {Log: log},
 	} {
 		config.Socket = h.path
 		for _, open := range []func(context.Context, pibroulez.Config) (*pibroulez.Store, error){pibroulez.New, pibroulez.OpenOrNew} {
