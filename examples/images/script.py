@@ -18,7 +18,8 @@ from pibroulez.images.unpack import unpack
 
 # The most inodes of a layer that a store can be opened with.
 MOST_INODES = 1 << 24
-MOST_ANCESTORS = 64
+# The most ancestors of a snapshot in a store that says nothing, and in any.
+DEFAULT_ANCESTORS, MOST_ANCESTORS = 64, 500
 MOST_LINE_BYTES = 1 << 24
 # Of what is told of a source, in letters.
 MOST_TOLD = 1000
@@ -47,22 +48,24 @@ class Script:
     def say(self, command: dict) -> None:
         self.out.write(json.dumps(command, separators=(",", ":"), ensure_ascii=False) + "\n")
 
-    def open(self) -> None:
+    def open(self, layers: int = 1) -> None:
+        """Opens a store in which a snapshot can stand on so many layers, or on as many as it may."""
         namespaces = [[ns, *self.limit] for ns in self.namespaces]
-        self.say({"do": "open", "root": "/r", "namespaces": namespaces, "layer_inodes": MOST_INODES})
+        more = {"ancestors": min(layers, MOST_ANCESTORS)} if layers > DEFAULT_ANCESTORS else {}
+        self.say({"do": "open", "root": "/r", "namespaces": namespaces, "layer_inodes": MOST_INODES, **more})
 
     def layers(self, layers: list[Layer]) -> None:
         """A snapshot for each layer, and what the store then has. Nothing is printed before all layers are read."""
         with tempfile.TemporaryFile("w+", encoding="utf-8", newline="\n") as operations:
             made = list(self._made(layers, operations))
-            self.open()
+            self.open(len(layers))
             parent = ""
             for number, layer in enumerate(made, 1):
                 for ns in self.namespaces:
                     self._layer(ns, f"extract-{number}", parent, layer, operations)
                 parent = layer.name
         if len(layers) > MOST_ANCESTORS + 1:
-            told(f"{len(layers)} layers: those above {MOST_ANCESTORS + 1} will be answered TooDeep")
+            told(f"layers {MOST_ANCESTORS + 2} to {len(layers)} are too deep: a snapshot has at most {MOST_ANCESTORS} ancestors")
         for ns in self.namespaces:
             self.say({"do": "tree", "ns": ns})
         self.say({"do": "report"})
