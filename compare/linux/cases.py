@@ -23,6 +23,8 @@ AMPLE = 1 << 30
 GRANTED = "granted"
 NOBODY = 65_534
 LONGEST_OPTIONS = 4095
+# The most lower layers of a mount (OVL_MAX_STACK).
+MOST_LAYERS = 500
 
 # What a side answers: `granted`, an error, or what a lookup tells.
 Outcome = str | Answer
@@ -41,9 +43,9 @@ class Trial:
     layers: Layers
     base: str = ""
 
-    def open(self, root: str = "/r") -> None:
+    def open(self, root: str = "/r", **bounds: int) -> None:
         """Opens the program's store."""
-        self.program.ask({"do": "open", "root": root, "namespaces": [[NAMESPACE, AMPLE, AMPLE]]})
+        self.program.ask({"do": "open", "root": root, "namespaces": [[NAMESPACE, AMPLE, AMPLE]], **bounds})
 
     def start(self, *commands: Command) -> None:
         """An active snapshot, in which these are granted by both sides."""
@@ -212,13 +214,29 @@ def inodes_above_65536(trial: Trial) -> None:
 
 
 @_case
-def ancestors_above_64(trial: Trial) -> None:
-    """A snapshot has at most 64 ancestors."""
-    for _ in range(65):
-        trial.layer()
-    trial.expect("here: a snapshot on 65", trial.here(_command("prepare", parent=trial.base)), "TooDeep")
-    trial.layers.prepare(NAMESPACE, KEY, trial.base)
-    trial.expect("Linux: a mount of 65 lower layers", trial.linux(_create("/f")), GRANTED)
+def ancestors_of_a_store(trial: Trial) -> None:
+    """A snapshot has at most as many ancestors as its store allows: 64 where nothing is said, and 500 at the most, which
+    Linux has as its limit too."""
+    for given, most in (({}, 64), ({"ancestors": 2}, 2), ({"ancestors": MOST_LAYERS}, MOST_LAYERS)):
+        with trial.bench.both() as (trial.program, trial.layers):
+            trial.base = ""
+            trial.open(**given)
+            for _ in range(most):
+                trial.layer()
+            trial.layer(_create("/f"))
+            for do in ("prepare", "view"):
+                trial.expect(f"here: {do} on {most + 1}", trial.here(_command(do, parent=trial.base)), "TooDeep")
+            linux = "EINVAL" if most == MOST_LAYERS else {"names": ["f"]}
+            trial.expect(f"Linux: a mount of {most + 1} lower layers", _listed_on_base(trial), linux)
+
+
+def _listed_on_base(trial: Trial) -> Outcome:
+    """What Linux lists in the root of a snapshot on the last one, or why it doesn't mount it."""
+    try:
+        trial.layers.prepare(NAMESPACE, KEY, trial.base)
+    except OSError as error:
+        return name_in_linux(error.errno)
+    return trial.linux(_at("list", "/"))
 
 
 @_case

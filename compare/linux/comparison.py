@@ -14,7 +14,9 @@ from linux.program import Program, ProgramEnded
 GRANTED: Answer = {"granted": True}
 NOT_ASKED: Answer = {"asked": False}
 FULL = refusal("LayerFull")
+TOO_DEEP = "TooDeep"
 LAYER_INODES = 65_536
+ANCESTORS = 64
 
 
 @dataclass
@@ -57,6 +59,7 @@ class Comparison:
     counts: Counts
     whole_every: int
     layer_inodes: int = LAYER_INODES
+    ancestors: int = ANCESTORS
 
     def run(self, commands: Iterable[Command]) -> Found | None:
         """The first difference that is not declared, if there is one."""
@@ -84,11 +87,15 @@ class Comparison:
         do, ns, key = command["do"], command.get("ns"), command.get("key")
         if do in ("commit", "discard"):
             self._look_at_all(ns, key)
-        if "error" in self.program.ask(command):
+        answer = self.program.ask(command)
+        if do in ("prepare", "view"):
+            self._judge_depth(command, answer)
+        if "error" in answer:
             return
         match do:
             case "open":
                 self.layer_inodes = command.get("layer_inodes", LAYER_INODES)
+                self.ancestors = command.get("ancestors", ANCESTORS)
             case "prepare":
                 self.layers.prepare(ns, key, command["parent"])
             case "view":
@@ -101,6 +108,17 @@ class Comparison:
             self.counts.snapshots += 1
             self.counts.most_layers = max(self.counts.most_layers, self.layers.depth(ns, key))
             self._look_at_all(ns, key)
+
+    def _judge_depth(self, command: Command, here: Answer) -> None:
+        """A snapshot is too deep exactly where its parent's layers are more than the store's number of ancestors. Linux is
+        not asked: its own number is the greatest that a store may have."""
+        is_deep = here.get("error") == TOO_DEEP
+        if not is_deep and "error" in here:
+            return
+        lowers = self.layers.depth(command["ns"], command["parent"]) if command["parent"] else 0
+        most = {"ancestors": self.ancestors}
+        self._judge(command, most | {"layers": lowers}, here, is_deep == (lowers > self.ancestors))
+        self.counts.declared["ancestors-of-a-store"] += is_deep
 
     def _look(self, command: Command) -> None:
         """A lookup of the script itself."""

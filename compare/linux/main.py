@@ -20,7 +20,8 @@ REPOSITORY = Path(__file__).resolve().parents[2]
 PROGRAM = REPOSITORY / "crates/snap_replay/out/snap_replay"
 
 STEPS = 20_000
-MOST_ANCESTORS = 64
+# The most layers below a snapshot of a script that is made up, and those of the one that is a long chain.
+ANCESTORS, DEEP_ANCESTORS, MOST_ANCESTORS = 64, 300, 500
 INTERRUPTED = 130
 
 ABOUT = """
@@ -30,8 +31,8 @@ made by the program and by its system call. After each of them both sides have t
 same error, to show the same by look, list, read, resolve and du, and to count the same blocks and inodes.
 
 Without a SCRIPT it takes, in this order, a case of each declared difference (docs/LINUX.md), the scripts of
-examples/, and scripts that it makes from the seed, until these have made so many steps. With SCRIPTs it takes these
-alone. A difference that is not declared is shown as a script, cut down to the fewest commands.
+examples/, a chain of 300 layers, and scripts that it makes from the seed, until these have made so many steps. With
+SCRIPTs it takes these alone. A difference that is not declared is shown as a script, cut down to the fewest commands.
 """
 
 EXAMPLE = """
@@ -71,7 +72,10 @@ def _words() -> argparse.Namespace:
     parser.add_argument("--steps", type=int, default=STEPS, help=f"file operations that are made up ({STEPS})")
     parser.add_argument("--seed", type=int, default=1, help="what they are made from (1)")
     parser.add_argument(
-        "--layers", type=int, default=MOST_ANCESTORS, help=f"the most layers below a snapshot ({MOST_ANCESTORS})"
+        "--layers", type=int, default=ANCESTORS, help=f"the most layers below a snapshot ({ANCESTORS})"
+    )
+    parser.add_argument(
+        "--deep", type=int, default=DEEP_ANCESTORS, help=f"those of the long chain, or 0 for none ({DEEP_ANCESTORS})"
     )
     parser.add_argument("scripts", metavar="SCRIPT", nargs="*", type=Path, help="scripts to compare, and no others")
     words = parser.parse_args()
@@ -79,8 +83,8 @@ def _words() -> argparse.Namespace:
     words.scripts = [script.resolve() for script in words.scripts]
     if not os.access(words.program, os.X_OK):
         parser.error(f"no program at {words.program}")
-    if not 0 <= words.layers <= MOST_ANCESTORS:
-        parser.error(f"--layers is 0 to {MOST_ANCESTORS}")
+    if not 0 <= words.layers <= MOST_ANCESTORS or not 0 <= words.deep <= MOST_ANCESTORS:
+        parser.error(f"--layers and --deep are 0 to {MOST_ANCESTORS}")
     return words
 
 
@@ -88,7 +92,7 @@ def _compare(words: argparse.Namespace, bench: Bench) -> int:
     if words.scripts:
         found = _compare_scripts(bench, words.scripts)
     elif _cases_hold(bench):
-        found = _compare_scripts(bench, _examples()) or _compare_sequences(bench, words)
+        found = _compare_scripts(bench, _examples()) or _compare_chain(bench, words) or _compare_sequences(bench, words)
     else:
         return 1
     if found:
@@ -138,6 +142,23 @@ def _read(path: Path) -> list[Command]:
     if not all(isinstance(command, dict) and "do" in command for command in script):
         sys.exit(f"{path}: a line is no command")
     return script
+
+
+def _compare_chain(bench: Bench, words: argparse.Namespace) -> Found | None:
+    """A chain of many layers, each mounted over all before it. A kernel may take fewer."""
+    if not words.deep:
+        return None
+    first = bench.counts.steps
+    try:
+        found = bench.compare(Sequence(Random(f"{words.seed} chain"), words.deep, is_deep=True).commands())
+    except OSError as why:
+        print(f"skipped: a chain of {words.deep} layers: {why}")
+        return None
+    if found:
+        print(f"difference: by the chain of seed {words.seed}; it is cut down:")
+        return found
+    print(f"chain: {words.deep} layers, {bench.counts.steps - first} steps")
+    return None
 
 
 def _compare_sequences(bench: Bench, words: argparse.Namespace) -> Found | None:

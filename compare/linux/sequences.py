@@ -18,6 +18,9 @@ SIZES = (0, 0, 1, 5, 16, 17, 4095, 4096, 4097, 12_288)
 FILE_ENDS = (1_048_575, 1_048_576, 1_048_577)
 SIZED_ENDS = (104_857_600, (1 << 40) - 1, 1 << 40, (1 << 40) + 1)
 DIGEST = "sha256:ab"
+DEFAULT_ANCESTORS = 64
+# The most operations of a snapshot in a long chain.
+DEEP_STEPS = 4
 
 # How often each operation comes in a snapshot: any, or mostly those that build, take away or move.
 MIXED = {
@@ -97,21 +100,30 @@ NEEDED = {
 
 @dataclass
 class Sequence:
-    """One script, of snapshots with at most so many ancestors."""
+    """One script, of snapshots with at most so many ancestors. With `is_deep` it is a chain of as many, of few operations
+    each."""
 
     random: Random
     most_ancestors: int
+    is_deep: bool = False
     committed: dict[str, Guess] = field(default_factory=dict)
     guess: Guess = field(default_factory=Guess)
 
     def commands(self) -> Iterator[Command]:
         """The script, from its `open` on."""
-        yield {"do": "open", "root": "/r", "namespaces": [[NAMESPACE, AMPLE, AMPLE]]}
         greatest = self.random.choice((2, 4, 4, 8, 16, self.most_ancestors))
-        ancestors = min(greatest, self.most_ancestors)
-        branching = self.random.choice((0, 0, 0.2))
+        ancestors = self.most_ancestors if self.is_deep else min(greatest, self.most_ancestors)
+        branching = 0 if self.is_deep else self.random.choice((0, 0, 0.2))
+        yield {"do": "open", "root": "/r", "namespaces": [[NAMESPACE, AMPLE, AMPLE]], **self._allowed(ancestors)}
+        steps = DEEP_STEPS if self.is_deep else 40 if ancestors <= 8 else 10
         for number in range(ancestors + 1):
-            yield from self._snapshot(f"k{number}", branching, steps=40 if ancestors <= 8 else 10)
+            yield from self._snapshot(f"k{number}", branching, steps)
+
+    def _allowed(self, ancestors: int) -> Command:
+        """How many ancestors the store allows: mostly enough, now and then fewer, so that snapshots are too deep."""
+        if ancestors > 1 and not self.is_deep and self._is(0.2):
+            return {"ancestors": self.random.randrange(1, ancestors)}
+        return {"ancestors": ancestors} if ancestors > DEFAULT_ANCESTORS or (ancestors > 0 and self._is(0.5)) else {}
 
     def _snapshot(self, key: str, branching: float, steps: int) -> Iterator[Command]:
         """A snapshot on the last one, or on any, with its operations and its end."""
