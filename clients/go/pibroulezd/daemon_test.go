@@ -3,8 +3,10 @@ package main
 import (
 	"bytes"
 	"context"
+	"errors"
 	"io"
 	"os"
+	"strconv"
 	"strings"
 	"syscall"
 	"testing"
@@ -72,6 +74,32 @@ func TestReadAgain(t *testing.T) {
 	equal(t, quotas["a"].Limit, pibroulez.Usage{Blocks: 60, Inodes: 70})
 	equal(t, quotas["b"].Limit, pibroulez.Usage{Blocks: 5, Inodes: 5})
 	equal(t, len(quotas), 2)
+}
+
+// A store allows as many ancestors as the file says when it is opened, and as many after a start with another file.
+func TestAncestors(t *testing.T) {
+	p := newPlace(t)
+	d, _ := p.open(t, "ancestors = 2\n"+tenant("a", 100, 100))
+	for n, parent := range []string{"", "1", "2"} {
+		_, err := d.store.Prepare(ctx, "a", "k", parent)
+		granted(t, err)
+		_, err = d.store.Commit(ctx, "a", "k", strconv.Itoa(n+1))
+		granted(t, err)
+	}
+	for _, other := range []string{"", "ancestors = 500\n"} {
+		if _, err := d.store.Prepare(ctx, "a", "k", "3"); !errors.Is(err, pibroulez.ErrTooDeep) {
+			t.Errorf("%v, not too deep", err)
+		}
+		if _, err := d.store.View(ctx, "a", "v", "3"); !errors.Is(err, pibroulez.ErrTooDeep) {
+			t.Errorf("%v, not too deep", err)
+		}
+		_, err := d.store.Prepare(ctx, "a", "k", "2")
+		granted(t, err)
+		_, err = d.store.Discard(ctx, "a", "k")
+		granted(t, err)
+		granted(t, d.store.Close())
+		d, _ = p.open(t, other+tenant("a", 100, 100))
+	}
 }
 
 // The daemon ends with its store, and says of what.
