@@ -92,7 +92,7 @@ func (s subject) words(err error) string {
 	case pibroulez.ErrNotCommitted:
 		return fmt.Sprintf("parent %q is not committed", text(s.parent))
 	case pibroulez.ErrTooDeep:
-		return fmt.Sprintf("parent %q has as many ancestors as a snapshot may have", text(s.parent))
+		return fmt.Sprintf("parent %q has as many ancestors as the store allows", text(s.parent))
 	}
 	if words := plainWords[refusal.Reason]; words != "" && s.key != "" {
 		return fmt.Sprintf("snapshot %q %s", s.key, words)
