@@ -12,7 +12,7 @@ from linux.bench import Bench
 from linux.calls import Command
 from linux.cases import CASES, CaseFailed, run_case
 from linux.comparison import Counts, Found
-from linux.place import CannotMount, mounting_place
+from linux.place import CannotMount, mount_chain, mounting_place
 from linux.program import line_of
 from linux.sequences import Sequence
 
@@ -148,12 +148,13 @@ def _compare_chain(bench: Bench, words: argparse.Namespace) -> Found | None:
     """A chain of many layers, each mounted over all before it. A kernel may take fewer."""
     if not words.deep:
         return None
-    first = bench.counts.steps
     try:
-        found = bench.compare(Sequence(Random(f"{words.seed} chain"), words.deep, is_deep=True).commands())
-    except OSError as why:
-        print(f"skipped: a chain of {words.deep} layers: {why}")
+        mount_chain(bench.place, words.deep)
+    except CannotMount as why:
+        print(f"skipped: {why}")
         return None
+    first = bench.counts.steps
+    found = bench.compare(Sequence(Random(f"{words.seed} chain"), words.deep, is_deep=True).commands())
     if found:
         print(f"difference: by the chain of seed {words.seed}; it is cut down:")
         return found

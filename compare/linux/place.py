@@ -36,6 +36,22 @@ def mounting_place() -> Iterator[str]:
         os.rmdir(place)
 
 
+def mount_chain(place: str, number: int) -> None:
+    """Mounts a chain of so many lower layers, each over all before it. A kernel that takes fewer refuses it."""
+    layers = Layers(place)
+    try:
+        parent = ""
+        for name in map(str, range(number)):
+            layers.prepare("", "key", parent)
+            layers.commit("", "key", name)
+            parent = name
+        layers.prepare("", "key", parent)
+    except OSError as error:
+        raise CannotMount(f"no mount of {number} lower layers: {error}") from error
+    finally:
+        layers.close()
+
+
 def _try_to_mount(place: str) -> None:
     """Root of a container may lack the right to mount, or to set the attributes that overlayfs keeps."""
     try:
