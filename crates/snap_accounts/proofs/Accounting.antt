@@ -17,7 +17,7 @@ use Rattle.std.specs.Prelude.{nat_le, ◌&&◌, ◌^◌}
 use Rattle.std.proofs.lemmas.Bool.{and_parts, le-leb}
 use Rattle.snap_call.specs.Step.{fits_limit}
 use Rattle.snap_call.proofs.Sums.{charge_of-covers, charge_with}
-use Rattle.snap_call.proofs.Keeping.{covers-Covers}
+use Rattle.snap_call.proofs.Keeping.{covers-Covers, placed_below}
 use Rattle.snap_call.proofs.Lists.{active_at-all}
 use Rattle.snap_call.proofs.Slots.{is_slot-other, charge_at-Some, charge_at-recharged_own, charge_at-recharged_other, charge_at-without_slot_own, charge_at-without_slot_other, charge_at-committed_own, charge_at-committed_other, charge_at-with_record_own, charge_at-with_record_other}
 use Rattle.snap_layer.specs.Tree.{Tree}
@@ -126,7 +126,7 @@ charge_in-at s us cs n slot accounts low = slice_get-found cs slot (charge_at sl
 
 -- the namespace of an open snapshot is one of the store's
 pub place-of : (s : State) (slot : ℕ) (r : Record) → Good s → active_at slot s.records ≡ Some r → r.namespace < length s.namespaces
-place-of s slot r good e = active_at-all (λ (t : Record). t.namespace < length s.namespaces) slot s.records r e good.placed
+place-of s slot r good e = active_at-all (λ (t : Record). t.namespace < length s.namespaces) slot s.records r e (placed_below s good)
 
 -- a slot is charged so much
 pub accounts_recharged : (s t : State) (us vs : List Usage) (cs ds : List ChargeState) (n slot : ℕ) (to : Usage) (r : Record)

@@ -1,8 +1,9 @@
 -- What is kept beside the state, after a plain call.
-use Rattle.std.proofs.Common.{◌≡◌, ℕ, ◌+◌, ◌<◌, Bool, true, false, true≢false, List, [], ◌∷◌, ◌++◌, length, set, Option, None, Some, IsSome, refl, sym, ap, ◌∙◌, subst, arith}
-use Rattle.std.specs.Prelude.{◌==◌, ◌↔◌, bytes_eq, if◌then◌else◌, IsSomeAnd, IsErrOf, IsOk, IsOkUnless, IsTrue, OnOk, Result, Ok, Err}
+use Rattle.std.proofs.Common.{◌≡◌, ◌≢◌, ℕ, zero, suc, ◌+◌, ◌<◌, ◌≤◌, Bool, true, false, true≢false, List, [], ◌∷◌, ◌++◌, length, length-append, take, inl, inr, set, Option, None, Some, IsSome, refl, sym, ap, ◌∙◌, subst, arith}
+use Rattle.std.specs.Prelude.{◌==◌, ◌↔◌, slice_get, bytes_eq, if◌then◌else◌, IsSomeAnd, IsErrOf, IsOk, IsOkUnless, IsTrue, OnOk, Result, Ok, Err}
 use Rattle.std.specs.Option.{option_map_or}
-use Rattle.std.proofs.lemmas.Bool.{and_parts, eqb-true}
+use Rattle.std.proofs.lemmas.Bool.{and_parts, cases_lt, eqb-true}
+use lib.Seq.{length-take-le}
 use Rattle.snap_layer.specs.Tree.{Tree}
 use Rattle.snap_usage.specs.declared.usage.Usage.{Usage}
 use Rattle.snap_usage.specs.Counted.{Covers, no_usage}
@@ -20,17 +21,19 @@ use Rattle.snap_call.specs.declared.config.Namespace.{Namespace}
 use Rattle.snap_call.specs.declared.state.State.{State}
 use Rattle.snap_call.specs.Good.{Good}
 use Rattle.snap_call.specs.Records.{charge_of, charge_at, committed_at, has_slot, is_active, is_named, open_count, record_at, with_record, without_key, relabelled}
-use Rattle.snap_call.specs.State.{place_of, shown_layers}
-use Rattle.snap_call.specs.Step.{added, leasing, limited_at, removed_at, relabelled_at}
+use Rattle.snap_call.specs.State.{place_of, shown_layers, with_namespace, without_namespace}
+use Rattle.snap_call.specs.Step.{added, leasing, limited_at, spacing, removed_at, relabelled_at}
 use Rattle.snap_call.proofs.Alike.{bare-relabelled, alike-charge_of, alike-charge_at, alike-open_count}
 use Rattle.snap_call.proofs.Counts.{open_count-with_record, open_count-without_idle}
-use Rattle.snap_call.proofs.Keeping.{good_relabelled, good_removed, good_view_added, place_of-below, removed_others, removed_total}
+use Rattle.snap_call.proofs.Keeping.{good_relabelled, good_removed, good_view_added, place_of-below, placed_below, removed_others, removed_total}
 use Rattle.snap_call.proofs.Leasing.{good_created, good_dropped, good_limited, good_named, good_released, length-limited}
-use Rattle.snap_call.proofs.Lists.{record_at-is_named, active_one}
+use Rattle.snap_call.proofs.Lists.{all-map, record_at-is_named, active_one}
+use Rattle.snap_call.proofs.Naming.{length-with, length-without_namespace}
+use Rattle.snap_call.proofs.Spacing.{good_namespace, good_removed_namespace}
 use Rattle.snap_call.proofs.Slots.{charge_at-with_record_other, charge_at-without_idle}
-use Rattle.snap_call.proofs.Sums.{plus-none, charge_of-covers, charge_of-with_record}
+use Rattle.snap_call.proofs.Sums.{plus-none, charge_of-covers, charge_of-elsewhere, charge_of-with_record}
 use Rattle.snap_accounts.specs.Accounts.{AreAccounts}
-use Rattle.snap_accounts.specs.Changes.{IsLimitFor, IsLeaseName, IsNewView, IsSpace, IsUnused}
+use Rattle.snap_accounts.specs.Changes.{IsEmptySpace, IsLimitFor, IsNewSpace, IsLeaseName, IsNewView, IsSpace, IsUnused}
 use Rattle.snap_accounts.proofs.Accounting.{accounts_kept, accounts_total}
 
 -- ---- a view more
@@ -54,7 +57,7 @@ pub accounts_viewed : (s : State) (us : List Usage) (cs : List ChargeState) (n :
 accounts_viewed s us cs n r accounts new =
     let layers : List Tree = shown_layers r.namespace r.parent s.records in
     accounts_kept s (added s r) us cs n accounts
-    (good_view_added s r accounts.good new.view new.id new.site.inside new.site.new new.site.base new.site.deep)
+    (good_view_added s r accounts.good new.view new.id new.site.taken new.site.new new.site.base new.site.deep)
     refl
     (λ k. charge_of-view r layers new.view k s.records)
     (λ k. charge_at-view r layers new.view k s.records)
@@ -113,6 +116,54 @@ accounts_removed s us vs cs n place key accounts unused is_vs =
     (λ k. charge_at-without_idle k (is_named place key) s.records f.0 f.1 f.2)
     (open_count-removed s place key unused)
     (is_vs ∙ ap (λ u. set us place (minus (charge_of place s.records) u)) (freed-found s place key unused))
+
+-- ---- a namespace more, and one less
+
+-- the totals as far as there are places
+totals_cut : (us : List Usage) (k j : ℕ) → j < k → slice_get (take k us) j ≡ slice_get us j
+totals_cut [] zero j low = refl
+totals_cut [] (suc k) j low = refl
+totals_cut (u ∷ us) zero j low = absurd (omega (arith, low))
+totals_cut (u ∷ us) (suc k) zero low = refl
+totals_cut (u ∷ us) (suc k) (suc j) low = totals_cut us k j (omega (arith, low))
+
+total_before : (us : List Usage) (u : Usage) (j : ℕ) → j < length us → slice_get (us ++ u ∷ []) j ≡ slice_get us j
+total_before [] u j low = absurd (omega (arith, low))
+total_before (v ∷ us) u zero low = refl
+total_before (v ∷ us) u (suc j) low = total_before us u j (omega (arith, low))
+
+total_last : (us : List Usage) (u : Usage) (j : ℕ) → j ≡ length us → slice_get (us ++ u ∷ []) j ≡ Some u
+total_last [] u zero is = refl
+total_last [] u (suc j) is = absurd (omega (arith, is))
+total_last (v ∷ us) u zero is = absurd (omega (arith, is))
+total_last (v ∷ us) u (suc j) is = total_last us u j (omega (arith, is))
+
+pub accounts_spaced : (s : State) (us vs : List Usage) (cs : List ChargeState) (n : ℕ) (m : Namespace) → AreAccounts s us cs n → IsNewSpace s m → vs ≡ take (length (with_namespace m s.namespaces)) (us ++ no_usage ∷ []) → AreAccounts (spacing s (with_namespace m s.namespaces)) vs cs n
+accounts_spaced s us vs cs n m accounts new is_vs = record {
+  good = good_namespace s m accounts.good new.0 new.1;
+  count = ap length is_vs ∙ length-take-le count (us ++ no_usage ∷ []) (let all = length-append us (no_usage ∷ []) in let same = accounts.count in let most = lengths.1 in omega (arith, all, same, most));
+  totals_are = λ place lt. ap (λ (l : List Usage). slice_get l place) is_vs ∙ totals_cut (us ++ no_usage ∷ []) count place lt ∙ total_at place lt;
+  charges_are = accounts.charges_are;
+  open_are = accounts.open_are;
+}
+  where
+    count : ℕ
+    count = length (with_namespace m s.namespaces)
+
+    lengths : (length s.namespaces ≤ count) × (count ≤ length s.namespaces + 1)
+    lengths = length-with m s.namespaces
+
+    total_at : (place : ℕ) → place < count → slice_get (us ++ no_usage ∷ []) place ≡ Some (charge_of place s.records)
+    total_at place lt = elim (cases_lt place (length s.namespaces)) [
+      | inl low ↦ (let low' : place < length us = (let same = accounts.count in omega (arith, low, same)) in total_before us no_usage place low' ∙ accounts.totals_are place low)
+      | inr high ↦ (let last : place ≡ length us = (let same = accounts.count in let most = lengths.1 in omega (arith, lt, high, same, most)) in
+          total_last us no_usage place last ∙ ap Some (sym (charge_of-elsewhere place s.records (all-map (λ r. r.namespace < length s.namespaces) (λ r. place ≢ r.namespace) (λ r low same. omega (arith, low, same, high)) s.records (placed_below s accounts.good)))))
+    ]
+
+pub accounts_unspaced : (s : State) (us : List Usage) (cs : List ChargeState) (n place : ℕ) → AreAccounts s us cs n → IsEmptySpace s place → AreAccounts (spacing s (without_namespace place s.namespaces)) us cs n
+accounts_unspaced s us cs n place accounts is =
+    accounts_kept s (spacing s (without_namespace place s.namespaces)) us cs n accounts (good_removed_namespace s is.namespace place accounts.good is.named is.empty)
+    (length-without_namespace place s.namespaces) (λ k. refl) (λ k. refl) refl
 
 -- ---- another limit
 

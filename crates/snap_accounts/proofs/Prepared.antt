@@ -1,6 +1,6 @@
 -- What is kept beside the state, after a new snapshot.
-use Rattle.std.specs.Prelude.{if◌then◌else◌, not, Ok, Err}
-use Rattle.std.proofs.Common.{Bool, ◌≡◌, ℕ, ◌+◌, ◌<◌, ◌≤◌, List, length, set, true, false, None, refl, sym, ap, ◌∙◌, subst, arith}
+use Rattle.std.specs.Prelude.{if◌then◌else◌, Ok, Err}
+use Rattle.std.proofs.Common.{Bool, ◌≡◌, ℕ, ◌+◌, ◌<◌, ◌≤◌, List, set, true, false, None, refl, sym, ap, ◌∙◌, subst, arith}
 use Rattle.std.proofs.lemmas.Bool.{leb-true}
 use Rattle.snap_path.specs.Limits.{most_number}
 use Rattle.snap_usage.specs.declared.usage.Usage.{Usage}
@@ -13,10 +13,11 @@ use Rattle.snap_call.specs.declared.refusal.Refusal.TheVariants.{TooDeep}
 use Rattle.snap_call.specs.declared.state.State.{State}
 use Rattle.snap_call.specs.Good.{Good}
 use Rattle.snap_call.specs.Records.{charge_of, active_at, has_key, is_slot, open_count, with_record, max_slots}
-use Rattle.snap_call.specs.State.{limit_at, is_present, is_base, is_too_deep}
+use Rattle.snap_call.specs.State.{limit_at, is_present, is_base, is_taken_at, is_too_deep}
 use Rattle.snap_call.specs.Step.{one, place_for, place_on, slot_for, new_record}
 use Rattle.snap_call.proofs.Counts.{open_count-with_active, open_count-most}
-use Rattle.snap_call.proofs.Keeping.{covers-Covers, good_prepared, place_of-below}
+use Rattle.snap_call.proofs.Keeping.{covers-Covers, good_prepared}
+use Rattle.snap_call.proofs.Leasing.{place_of-taken, taken-below}
 use Rattle.snap_call.proofs.Lowest.{lowest_free-Some}
 use Rattle.snap_call.proofs.Places.{IsPlace, place_for-Ok, slot_for-Ok}
 use Rattle.snap_call.proofs.Slots.{Active-is_slot, charge_at-None}
@@ -43,15 +44,15 @@ open-most s us cs n accounts = let most = open_count-most s.slots s.records acco
 
 -- a new snapshot is charged, and its slot is taken
 pub accounts_prepared : (s : State) (us vs : List Usage) (cs ds : List ChargeState) (n place slot : ℕ) (key parent : Bytes) (labels : List Label) (rs : List Record)
-    → AreAccounts s us cs n → place < length s.namespaces → has_key place key s.records ≡ false → is_base place parent s.records ≡ true → is_too_deep s.ancestors place parent s.records ≡ false
+    → AreAccounts s us cs n → is_taken_at place s.namespaces ≡ true → has_key place key s.records ≡ false → is_base place parent s.records ≡ true → is_too_deep s.ancestors place parent s.records ≡ false
     → slot < s.slots → slot < max_slots → active_at slot s.records ≡ None → covers (limit_at place s.namespaces) (plus (charge_of place s.records) one) ≡ true
     → rs ≡ with_record (new_record s place key parent labels (Active slot one)) s.records → vs ≡ set us place (plus (charge_of place s.records) one) → ds ≡ set cs slot (record { slot = slot; id = s.next_id; usage = one; issued = true })
     → AreAccounts (record s { records = rs; next_id = s.next_id + 1; entries = s.entries + 1 }) vs ds (n + 1)
-accounts_prepared s us vs cs ds n place slot key parent labels rs accounts inside new base deep low few none fits is is_vs is_ds =
-    let good = good_prepared s place key parent labels slot accounts.good inside new base deep low none (covers-Covers (limit_at place s.namespaces) (plus (charge_of place s.records) one) fits) in
+accounts_prepared s us vs cs ds n place slot key parent labels rs accounts taken new base deep low few none fits is is_vs is_ds =
+    let good = good_prepared s place key parent labels slot accounts.good taken new base deep low none (covers-Covers (limit_at place s.namespaces) (plus (charge_of place s.records) one) fits) in
     accounts_added s (record s { records = rs; next_id = s.next_id + 1; entries = s.entries + 1 }) us vs cs ds n (n + 1) slot (new_record s place key parent labels (Active slot one)) accounts
     (subst (λ (l : List Record). Good (record s { records = l; next_id = s.next_id + 1; entries = s.entries + 1 })) (sym is) good)
-    none (new_active-is_slot s place key parent labels slot) few inside refl is
+    none (new_active-is_slot s place key parent labels slot) few (taken-below place s.namespaces taken) refl is
     (ap (λ (k : ℕ). k + 1) accounts.open_are ∙ sym (open_count-prepared s place key parent labels slot rs is))
     is_vs is_ds
 
@@ -75,7 +76,7 @@ module _ (most : ℕ) (rs : List Record) (key parent : Bytes) (place : ℕ) (pre
 
 -- a place that was found, where an id is left
 pub site : (s : State) (namespace key parent : Bytes) (place : ℕ) → IsPlace s namespace key parent place → s.next_id ≤ most_number → IsSite s place key parent
-site s namespace key parent place is few = record { inside = place_of-below namespace s.namespaces place is.named; new = is.free; base = is.base; deep = is.deep; numbers = few }
+site s namespace key parent place is few = record { taken = place_of-taken namespace s.namespaces place is.named; new = is.free; base = is.base; deep = is.deep; numbers = few }
 
 -- where both were found, a snapshot can be added there
 pub vacant : (s : State) (namespace key parent : Bytes) (labels : List Label) (place slot : ℕ) → slot < max_slots → place_for s namespace key parent labels ≡ Ok place → slot_for s place ≡ Ok slot → IsVacant s (record { place = place; slot = slot }) key parent

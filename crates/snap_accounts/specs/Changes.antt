@@ -1,21 +1,21 @@
 -- What a plain call changes beside the journal.
-use Rattle.std.specs.Prelude.{◌≡◌, ℕ, ◌<◌, ◌==◌, Bool, true, false, List, [], ◌∷◌, ◌++◌, length, Some, IsSome, IsSomeAnd}
+use Rattle.std.specs.Prelude.{◌≡◌, ℕ, ◌<◌, ◌==◌, ◌||◌, Bool, true, false, List, [], ◌∷◌, ◌++◌, length, None, Some, IsSome, IsSomeAnd}
 use Rattle.snap_usage.specs.declared.usage.Usage.{Usage}
 use Rattle.snap_usage.specs.Counted.{Covers}
 use Rattle.snap_lease.specs.Lease.{empty_lease}
-use Rattle.snap_lease.specs.Leases.{has_lease, is_guarded, lease_names, with_name_added, with_name_dropped, without_lease}
+use Rattle.snap_lease.specs.Leases.{has_lease, has_leases, is_guarded, lease_names, with_name_added, with_name_dropped, without_lease}
 use Rattle.snap_record.specs.Labels.{Bytes}
 use Rattle.snap_record.specs.declared.record.Content.TheVariants as contents
 use Rattle.snap_record.specs.declared.record.Record.{Record}
 use Rattle.snap_call.specs.declared.state.State.{State}
 use Rattle.snap_call.specs.declared.config.Namespace.{Namespace}
-use Rattle.snap_call.specs.Forms.{is_limit}
-use Rattle.snap_call.specs.Records.{charge_of, committed_at, has_children, is_active, record_at}
+use Rattle.snap_call.specs.Forms.{is_limit, is_namespace}
+use Rattle.snap_call.specs.Records.{charge_of, committed_at, has_children, has_records, is_active, record_at}
 use Rattle.snap_call.specs.Reached.{swept as swept_records, swept_keys}
-use Rattle.snap_call.specs.State.{name_at, place_of, shown_layers}
-use Rattle.snap_call.specs.Step.{added, counted, leasing, limited_at, removed_at, relabelled_at, swept_at}
+use Rattle.snap_call.specs.State.{name_at, place_of, shown_layers, with_namespace, without_namespace}
+use Rattle.snap_call.specs.Step.{added, counted, leasing, limited_at, spacing, removed_at, relabelled_at, swept_at}
 use Rattle.snap_accounts.specs.declared.change.Change.{Change}
-use Rattle.snap_accounts.specs.declared.change.Change.TheVariants.{Nothing, View, Removal, Labels, Limit, Lease, LeaseName, LeaseNameEnd, LeaseEnd, Sweep}
+use Rattle.snap_accounts.specs.declared.change.Change.TheVariants.{Nothing, View, Removal, Labels, Space, SpaceEnd, Limit, Lease, LeaseName, LeaseNameEnd, LeaseEnd, Sweep}
 use Rattle.snap_accounts.specs.Vacant.{IsSite}
 
 -- the state after the change, with one entry more
@@ -24,6 +24,8 @@ changed_state s Nothing = counted s
 changed_state s (View r) = added s r
 changed_state s (Removal place key) = removed_at s place key
 changed_state s (Labels place key labels) = relabelled_at s place key labels
+changed_state s (Space n) = spacing s (with_namespace n s.namespaces)
+changed_state s (SpaceEnd place) = spacing s (without_namespace place s.namespaces)
 changed_state s (Limit place n) = limited_at s place n.limit
 changed_state s (Lease namespace lease until) = leasing s (s.leases ++ empty_lease namespace lease until ∷ [])
 changed_state s (LeaseName namespace lease name) = leasing s (with_name_added s.leases namespace lease name)
@@ -44,6 +46,16 @@ pub record IsUnused (s : State) (place : ℕ) (key : Bytes) : Type 0 where
   pub childless : has_children place key s.records ≡ false
   pub idle : IsSomeAnd (record_at place key s.records) (λ r. is_active r.content ≡ false)
   pub unleased : is_guarded s.leases namespace key ≡ false
+
+-- the namespace can be made: it has its form, and the store has none of its name
+abbrev pub IsNewSpace : State → Namespace → Type 0
+IsNewSpace s n = (is_namespace n ≡ true) × (place_of n.name s.namespaces ≡ None)
+
+-- the namespace at the place can go: it has no snapshot and no lease
+pub record IsEmptySpace (s : State) (place : ℕ) : Type 0 where
+  pub namespace : Bytes
+  pub named : place_of namespace s.namespaces ≡ Some place
+  pub empty : (has_records place s.records || has_leases s.leases namespace) ≡ false
 
 -- the namespace at the place can have the limit: it covers what the namespace is charged
 pub record IsLimitFor (s : State) (place : ℕ) (n : Namespace) : Type 0 where
@@ -67,10 +79,12 @@ pub record IsSweepAt (s : State) (place : ℕ) (namespace : Bytes) (moment : ℕ
   pub swept : keys ≡ swept_keys s namespace place moment
   pub charged : freed ≡ charge_of place (swept_records s namespace place moment)
 
--- the change can be made: a view can be added, a snapshot can go, the limit covers the charge, the namespace has no such lease yet, the lease can be given the name or has it to lose, there is a lease to go, a sweep takes these away
+-- the change can be made: a view can be added, a snapshot can go, a namespace can come or go, the limit covers the charge, the namespace has no such lease yet, the lease can be given the name or has it to lose, there is a lease to go, a sweep takes these away
 abbrev pub CanChange : State → Change → Type 0
 CanChange s (View r) = IsNewView s r
 CanChange s (Removal place key) = IsUnused s place key
+CanChange s (Space n) = IsNewSpace s n
+CanChange s (SpaceEnd place) = IsEmptySpace s place
 CanChange s (Limit place n) = IsLimitFor s place n
 CanChange s (Lease namespace lease until) = IsSpace s namespace × (has_lease s.leases namespace lease ≡ false)
 CanChange s (LeaseName namespace lease name) = IsLeaseName s namespace lease name
@@ -79,10 +93,11 @@ CanChange s (LeaseEnd namespace lease) = has_lease s.leases namespace lease ≡ 
 CanChange s (Sweep place namespace moment keys freed) = IsSweepAt s place namespace moment keys freed
 CanChange s change = Unit {0}
 
--- the change takes no memory: no record, no lease and no name comes, and no record goes
+-- the change takes no memory: no record, no namespace, no lease and no name comes, and no record goes
 abbrev pub wants_none : State → Change → Bool
 wants_none s Nothing = true
 wants_none s (Labels place key labels) = true
+wants_none s (SpaceEnd place) = true
 wants_none s (Limit place n) = true
 wants_none s (LeaseName namespace lease name) = lease_names s.leases namespace lease name
 wants_none s (LeaseNameEnd namespace lease name) = true

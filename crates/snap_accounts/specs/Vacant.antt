@@ -1,18 +1,18 @@
 -- Where a new snapshot can go.
-use Rattle.std.specs.Prelude.{◌≡◌, ℕ, ◌<◌, ◌≤◌, true, false, None, length}
+use Rattle.std.specs.Prelude.{◌≡◌, ℕ, ◌<◌, ◌≤◌, true, false, None}
 use Rattle.snap_path.specs.Limits.{most_number}
 use Rattle.snap_usage.specs.Counted.{covers}
 use Rattle.snap_ledger.specs.States.{plus}
 use Rattle.snap_record.specs.Labels.{Bytes}
 use Rattle.snap_call.specs.declared.state.State.{State}
 use Rattle.snap_call.specs.Records.{charge_of, active_at, has_key, max_slots}
-use Rattle.snap_call.specs.State.{limit_at, is_base, is_too_deep}
+use Rattle.snap_call.specs.State.{limit_at, is_base, is_taken_at, is_too_deep}
 use Rattle.snap_call.specs.Step.{one}
 use Rattle.snap_accounts.specs.declared.prepare.Vacancy.{Vacancy}
 
 -- a snapshot of this key and parent can be added there: the namespace is one of the store's, has no snapshot of the key and the parent as a base that is not too deep for the store, and an id is left
 pub record IsSite (s : State) (place : ℕ) (key parent : Bytes) : Type 0 where
-  pub inside : place < length s.namespaces
+  pub taken : is_taken_at place s.namespaces ≡ true
   pub new : has_key place key s.records ≡ false
   pub base : is_base place parent s.records ≡ true
   pub deep : is_too_deep s.ancestors place parent s.records ≡ false

@@ -1,5 +1,5 @@
 // The state, and what each namespace is charged.
-ghost use Rattle.std.specs.Prelude.{◌≡◌, ◌<◌, ◌+◌, ◌^◌, IfOk, length, replicate, slice_set, true};
+ghost use Rattle.std.specs.Prelude.{◌≡◌, ◌<◌, ◌+◌, ◌^◌, ◌++◌, ◌∷◌, [], IfOk, OnErr, OnOk, length, replicate, slice_set, take, true};
 ghost use Rattle.snap_usage.specs.Counted.{Covers, no_usage};
 ghost use Rattle.snap_call.specs.Forms.{is_config, is_limit};
 ghost use Rattle.snap_call.specs.Good.{Good};
@@ -51,8 +51,9 @@ impl<N: StoreName> Accounts<N> {
     {
         let totals = Totals::zero(alloc, config.namespaces.len())?;
         let slots = Slots::open(alloc, table)?;
+        let state = State::opening(alloc, config)?;
         Ok(Accounts {
-            state: State::opening(alloc, config),
+            state,
             totals,
             slots,
             opened: 0,
@@ -134,6 +135,22 @@ impl Totals {
         let mut list = Vec::new(alloc);
         list.resize(count, Usage::ZERO)?;
         Ok(Totals { list })
+    }
+
+    // A total more, of nothing.
+    pub(crate) fn push_none(&mut self) -> Result<(), AllocError>
+        ensures ok { OnOk result (self.new ≡ self.old ++ no_usage ∷ []) }
+        ensures err { OnErr result (self.new ≡ self.old) }
+    {
+        self.list.push(Usage::ZERO)?;
+        Ok(())
+    }
+
+    // At most so many totals.
+    pub(crate) fn cut(&mut self, count: usize)
+        ensures { self.new ≡ take count self.old }
+    {
+        self.list.truncate(count);
     }
 
     pub(crate) fn at(&self, place: usize) -> Usage

@@ -44,6 +44,12 @@ pub enum Change {
         key: Text,
         labels: Labels,
     },
+    /// A namespace more.
+    Space(Namespace),
+    /// The namespace at this place goes, which has no snapshot and no lease.
+    SpaceEnd {
+        place: usize,
+    },
     /// The namespace at this place, with another limit.
     Limit {
         place: usize,
@@ -93,6 +99,8 @@ fn removals(change: &Change) -> usize
         Change::Nothing
         | Change::View(_)
         | Change::Labels { .. }
+        | Change::Space(_)
+        | Change::SpaceEnd { .. }
         | Change::Limit { .. }
         | Change::Lease { .. }
         | Change::LeaseName { .. }
@@ -348,6 +356,8 @@ impl<N: StoreName> Accounts<N> {
             | Call::View { .. }
             | Call::Remove { .. }
             | Call::Update { .. }
+            | Call::NamespaceCreate { .. }
+            | Call::NamespaceRemove { .. }
             | Call::SetLimit { .. }
             | Call::LeaseCreate { .. }
             | Call::LeaseAdd { .. }
@@ -363,13 +373,13 @@ impl<N: StoreName> Accounts<N> {
     /// `Stat` has the info of a snapshot, `Usage` what it is charged, in blocks of 4096 bytes and
     /// inodes, `Mounts` the mounts that show it, `View` the id of the new view and those of its
     /// ancestors, `Remove` what the snapshot was charged, `Update` the info with the labels after it,
-    /// `Walk` a page of infos, `Sweep` what goes; a limit and a lease are set without more. The refusals
+    /// `Walk` a page of infos, `Sweep` what goes; a namespace, a limit and a lease are set without more. The refusals
     /// are those of [`snap_call`]'s `step`, in its order. Takes memory for the reply and the change. The
     /// cost grows with the logarithm of the number of records and with the texts and labels of those that
     /// are found; that of mounts and of a view with that logarithm times the ancestors, that of a walk with
     /// the records that it passes over, that of a removal with the logarithm of the number of names in leases
-    /// too, that of a limit with the namespaces, that of a call on a lease with the namespaces and the logarithm of
-    /// the number of leases, and that of a sweep is that of [`plan_sweep`](snap_call::State::plan_sweep).
+    /// too, that of a call on a lease with the logarithm of the number of leases, that of making a namespace with
+    /// the places of the namespaces, each with the logarithm of the number of these, and that of a sweep is that of [`plan_sweep`](snap_call::State::plan_sweep).
     pub fn plan(&self, alloc: Global, call: &Call) -> Result<(Reply, Change), AllocError>
         requires plain { IsPlain call.now }
         requires entries { self.now.entries < 2 ^ 63 }
@@ -391,6 +401,8 @@ impl<N: StoreName> Accounts<N> {
                 labels,
                 paths,
             } => self.plan_update(namespace.as_str(), key, labels, paths.as_slice()),
+            Call::NamespaceCreate { namespace, limit } => self.plan_namespace(namespace, *limit),
+            Call::NamespaceRemove { namespace } => self.plan_namespace_end(namespace.as_str()),
             Call::SetLimit { namespace, limit } => self.plan_limit(namespace, *limit),
             Call::LeaseCreate {
                 namespace,
@@ -487,6 +499,8 @@ impl<N: StoreName> Accounts<N> {
             Change::View(snapshot) => self.add_view(snapshot)?,
             Change::Removal { place, key } => self.remove(place, key.as_str(), &mut removed),
             Change::Labels { place, key, labels } => self.relabel(place, key.as_str(), labels),
+            Change::Space(namespace) => self.add_namespace(namespace)?,
+            Change::SpaceEnd { place } => self.end_namespace(place),
             Change::Limit { place, namespace } => self.limit(place, namespace),
             Change::Lease {
                 namespace,

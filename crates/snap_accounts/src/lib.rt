@@ -15,6 +15,7 @@ mod info;
 mod lease;
 mod prepare;
 mod slots;
+mod spaces;
 mod sweep;
 
 pub use accounts::Accounts;

@@ -9,7 +9,7 @@ use Rattle.snap_record.specs.declared.record.Record.{Record}
 use Rattle.snap_call.specs.declared.refusal.Refusal.TheVariants.{NoNamespace, NotFound}
 use Rattle.snap_call.specs.declared.state.State.{State}
 use Rattle.snap_call.specs.Good.{Good}
-use Rattle.snap_call.proofs.Keeping.{good_chains}
+use Rattle.snap_call.proofs.Keeping.{good_chains, placed_below}
 use Rattle.snap_call.specs.Records.{is_named, record_at}
 use Rattle.snap_call.specs.State.{chain_from, limit_at, place_of, most_ancestors}
 use Rattle.snap_call.proofs.Lists.{record_at-all}
@@ -20,7 +20,7 @@ use Rattle.snap_book.specs.Small.{AreSmall}
 -- a snapshot is charged within its namespace's limit
 pub small : (s : State) → Good s → (place : ℕ) → AreSmall s.records place
 small s good place key r e =
-    let inside : r.namespace < length s.namespaces = record_at-all (λ t. t.namespace < length s.namespaces) place key s.records r e good.placed in
+    let inside : r.namespace < length s.namespaces = record_at-all (λ t. t.namespace < length s.namespaces) place key s.records r e (placed_below s good) in
     let covers = charge_of-covers (is_named place key) s.records r e in
     let within = good.within r.namespace inside in
     let limit = limit_at r.namespace s.namespaces in

@@ -79,14 +79,15 @@ impl<N: StoreName> Book<N> {
     /// Does a call that takes no snapshot out of its writer's hands and puts none into them: `View`,
     /// `Remove`, `Update`, `Stat`, `Usage`, `Mounts` or `Walk`, as containerd's `snapshots.Snapshotter`
     /// has them, `LeaseCreate`, `LeaseAdd`, `LeaseDrop` or `LeaseRelease`, as its `leases.Manager` has them,
-    /// `SetLimit` or `Sweep`.
+    /// `NamespaceCreate`, `NamespaceRemove`, `SetLimit` or `Sweep`.
     ///
     /// A view is a new snapshot without a slot and without a charge; its reply has its id and those of
     /// its ancestors. `Remove` takes a view or a committed snapshot away and answers what its namespace
     /// is no longer charged, in blocks of 4096 bytes and inodes, 0/0 for a view. `Update` changes labels
     /// by field paths and answers the info after it; `Stat` answers the info of a snapshot, `Usage` what
     /// it is charged, `Mounts` the mounts that show it, `Walk` the infos of the snapshots of a namespace
-    /// that come after a key and match a filter, at most 64 of them. `SetLimit` gives a namespace another
+    /// that come after a key and match a filter, at most 64 of them. `NamespaceCreate` makes a
+    /// namespace, `NamespaceRemove` takes one away that has no snapshot and no lease, and `SetLimit` gives one another
     /// limit. A lease keeps the committed snapshots that it names from being removed, until it is released
     /// or a sweep takes it; `LeaseAdd` of a name that is there already changes nothing, and `LeaseDrop` takes
     /// one name out of a lease. `Sweep` takes the namespace's leases away that have ended at the moment, and
@@ -106,6 +107,8 @@ impl<N: StoreName> Book<N> {
     /// than 64 labels would be left. `Stat`, `Usage` and `Mounts`: `BadArgument`, `NoNamespace`,
     /// `NotFound`, and `NotActive` for the mounts of a committed snapshot. `Walk`: `BadArgument` for a
     /// page of none or of more than 64 infos, or a start of more than 1024 bytes, then `NoNamespace`.
+    /// `NamespaceCreate`: `BadArgument` for a malformed name or above 2^40 of a quantity, `NamespaceExists`,
+    /// `TooManyNamespaces` where there are 4096. `NamespaceRemove`: `NoNamespace`, `NotEmpty`.
     /// `SetLimit`: `BadArgument` above 2^40 of a quantity, `NoNamespace`, `BelowCharge` where the limit
     /// does not cover what the namespace is charged. The calls on a lease: `BadArgument` for a lease or a
     /// name that is malformed, `NoNamespace`; then `LeaseCreate` `LeaseExists`, `LeaseAdd` `NotFound`,
@@ -115,8 +118,8 @@ impl<N: StoreName> Book<N> {
     /// Its cost grows with the logarithm of the number of records, and with the texts and labels of those
     /// that are found; that of mounts and of a view with that logarithm times the ancestors, that of a walk
     /// with the records that it passes over, that of a removal with the logarithm of the number of names that the
-    /// namespace's leases have too, that of a limit with the namespaces, that of a call on a lease with the
-    /// namespaces and the logarithm of the number of leases, for a release also, for each name of the lease, with the
+    /// namespace's leases have too, that of making a namespace with the places of the namespaces, that of a call on a
+    /// lease with the logarithm of the number of leases, for a release also, for each name of the lease, with the
     /// logarithm of the number of names that the namespace's leases have, for a drop once with that logarithm and with
     /// the number of the lease's names; that of a sweep with the leases and their names, for each ended lease with the
     /// logarithm of the number of leases, and with the records times the logarithm of their number.

@@ -2,11 +2,12 @@
 use Rattle.std.proofs.Common.{◌≡◌, ℕ, zero, suc, ◌+◌, ◌<◌, ◌≤◌, Bool, true, false, true≢false, List, [], ◌∷◌, length, drop, Option, Some, None, ◌⊎◌, inl, inr, refl, sym, ap, ◌∙◌, arith}
 use Rattle.std.specs.List.{AllByRecursion, list_all, list_any, find, starts_with}
 use Rattle.std.specs.Option.{option_map, option_map_or}
-use Rattle.std.specs.Prelude.{if◌then◌else◌, ◌&&◌, ◌||◌, ◌==◌, not, nat_eq, nat_lt, nat_le, bytes_eq, codes, is_some, Err}
+use Rattle.std.specs.Prelude.{if◌then◌else◌, ◌&&◌, ◌||◌, ◌==◌, not, nat_eq, nat_lt, nat_le, count_by, codes, is_some, Err}
 use Rattle.std.proofs.lemmas.Bool.{false_from_ne_true}
 use Rattle.std.proofs.lemmas.Bool.Decides.{nat_tests}
 use Rattle.std.proofs.lemmas.Slice.Eq.{bytes_eq-Decides}
 use Rattle.snap_layer.specs.Tree.{Tree}
+use Rattle.snap_usage.specs.declared.usage.Usage.{Usage}
 use Rattle.snap_record.specs.Cut.{cut, cut_label, cut_path, kept_by_paths, kept_labels, kept_update}
 use Rattle.snap_record.specs.Filters.{no_filter}
 use Rattle.snap_record.specs.Labels.{Bytes, Label, is_label, are_labels}
@@ -20,18 +21,18 @@ use Rattle.snap_call.specs.declared.call.Call.TheVariants as calls
 use Rattle.snap_call.specs.declared.call.Given.{Given}
 use Rattle.snap_call.specs.declared.call.Given.TheVariants.{Nothing, Count, Layer}
 use Rattle.snap_call.specs.declared.config.Namespace.{Namespace}
-use Rattle.snap_call.specs.declared.refusal.Refusal.TheVariants.{BadArgument, NoNamespace, NotFound, AlreadyExists, NoLease}
+use Rattle.snap_call.specs.declared.refusal.Refusal.TheVariants.{BadArgument, NoNamespace, NamespaceExists, TooManyNamespaces, NotFound, AlreadyExists, NoLease}
 use Rattle.snap_call.specs.declared.reply.Reply.{Reply}
-use Rattle.snap_call.specs.declared.reply.Reply.TheVariants.{Info, Page, Usage as UsageReply}
+use Rattle.snap_call.specs.declared.reply.Reply.TheVariants.{Done, Info, Page, Usage as UsageReply}
 use Rattle.snap_call.specs.declared.state.State.{State}
 use Rattle.snap_call.specs.Forms.{is_key, is_parent, is_start, is_page, is_limit}
 use Rattle.snap_call.specs.Good.{HasShortNames}
 use Rattle.snap_call.specs.Kept.{has_namespace, has_snapshot, kept, kept_change, kept_new}
 use Rattle.snap_call.specs.Records.{active_at, has_key, is_named, record_at, info_page, with_labels}
-use Rattle.snap_call.specs.State.{place_of}
-use Rattle.snap_call.specs.Step.{are_formed, at_record, commit, commit_as, committed, counted, has_named, in_namespace, mounts, place_for, place_on, refused, relabelled_at, step, sweep_at, unless_refused, update_record}
-use Rattle.snap_call.proofs.Parts.{lease_add_record, lease_create_at, lease_drop_at, lease_release_at, prepare_at, remove_record, set_limit_at, view_at}
-use Rattle.snap_call.proofs.Leasing.{position-past}
+use Rattle.snap_call.specs.State.{has_name, is_taken, most_namespaces, place_of, with_namespace}
+use Rattle.snap_call.specs.Step.{are_formed, at_record, commit, commit_as, committed, counted, has_named, in_namespace, mounts, place_for, place_on, refused, relabelled_at, spacing, step, sweep_at, unless_refused, update_record}
+use Rattle.snap_call.proofs.Parts.{namespace_create_as, namespace_remove_at, lease_add_record, lease_create_at, lease_drop_at, lease_release_at, prepare_at, remove_record, set_limit_at, view_at}
+use Rattle.snap_call.proofs.Leasing.{name_is, position-past}
 use Rattle.snap_call.proofs.Indexed.{any-found_some}
 use Rattle.snap_call.proofs.Lists.{find-passes, found-any}
 
@@ -201,10 +202,10 @@ path_alike path = by (nat_le (length path) 4103) refl
 
 unplaced : (name : Bytes) → 255 < length name → (ns : List Namespace) → AllByRecursion (λ n. length n.name ≤ 255) ns → place_of name ns ≡ None
 unplaced name long [] short = refl
-unplaced name long (n ∷ ns) short = position-past (λ m. bytes_eq m.name name) n ns other ∙ ap (option_map (λ k. suc k)) (unplaced name long ns short.1)
+unplaced name long (n ∷ ns) short = position-past (has_name name) n ns other ∙ ap (option_map (λ k. suc k)) (unplaced name long ns short.1)
   where
-    other : bytes_eq n.name name ≡ false
-    other = false_from_ne_true (bytes_eq n.name name) (λ same. let e : length n.name ≡ length name = ap length ((bytes_eq-Decides n.name name).0 same) in let low : length n.name ≤ 255 = short.0 in absurd (omega arith))
+    other : has_name name n ≡ false
+    other = false_from_ne_true (has_name name n) (λ is. let e : length n.name ≡ length name = ap length (name_is name n is) in let low : length n.name ≤ 255 = short.0 in absurd (omega arith))
 
 name_stays : (s : State) → HasShortNames s → (name : Bytes) → (cut 255 name ≡ name) ⊎ ((place_of name s.namespaces ≡ None) × (place_of (cut 255 name) s.namespaces ≡ None))
 name_stays s short name = by (nat_le (length name) 255) refl
@@ -441,6 +442,27 @@ module _ (s : State) (short : HasShortNames s) where
           ap (λ x. if is_start after && is_page most then x else refused s BadArgument) (out none no_filter ∙ sym (out none asked))
       by false n e f = ap (λ b. if b then paged no_filter else refused s BadArgument) e ∙ sym (ap (λ b. if b then paged asked else refused s BadArgument) e)
 
+  -- a new namespace
+  spaced_alike : (name : Bytes) (limit : Usage) → namespace_create_as s (record { name = cut 255 name; limit = limit }) ≡ namespace_create_as s (record { name = name; limit = limit })
+  spaced_alike name limit = by (nat_le (length name) 255) refl
+    where
+      long : (bs : Bytes) → 255 < length bs → namespace_create_as s (record { name = bs; limit = limit }) ≡ refused s BadArgument
+      long bs high =
+          let over : nat_le (length bs) 255 ≡ false = grind (arith, nat_tests) in
+          ap (λ b. if (((nat_le 1 (length bs) && b) && not (list_any (λ x. x == 0) bs)) && is_limit limit) then made_as bs else refused s BadArgument) over
+          ∙ by_first (nat_le 1 (length bs))
+        where
+          made_as : Bytes → State × Reply
+          made_as bs = if is_some (place_of bs s.namespaces) then refused s NamespaceExists else if nat_lt (count_by is_taken s.namespaces) most_namespaces then (spacing s (with_namespace (record { name = bs; limit = limit }) s.namespaces), Done) else refused s TooManyNamespaces
+
+          by_first : (b : Bool) → (if (((b && false) && not (list_any (λ x. x == 0) bs)) && is_limit limit) then made_as bs else refused s BadArgument) ≡ refused s BadArgument
+          by_first true = refl
+          by_first false = refl
+
+      by : (b : Bool) → nat_le (length name) 255 ≡ b → namespace_create_as s (record { name = cut 255 name; limit = limit }) ≡ namespace_create_as s (record { name = name; limit = limit })
+      by true e = let low : length name ≤ 255 = grind (arith, nat_tests) in ap (λ n. namespace_create_as s (record { name = n; limit = limit })) (cut_within 255 name low)
+      by false e = let high : 255 < length name = grind (arith, nat_tests) in long (cut 255 name) (cut_above 255 name high) ∙ sym (long name high)
+
   -- each call
   pub step_kept : (call : Call) (given : Given) → step s (kept s call) given ≡ step s call given
   step_kept calls.Session given = refl
@@ -459,6 +481,8 @@ module _ (s : State) (short : HasShortNames s) where
   step_kept (calls.Walk namespace after most asked) given =
       walked_alike namespace after most (if is_start after && is_page most && has_namespace s namespace then asked else no_filter) ∙ asked_alike namespace after most asked
   step_kept (calls.SetLimit namespace limit) given = ap (λ x. if is_limit limit then x else refused s BadArgument) (in_same namespace (λ n. set_limit_at s limit))
+  step_kept (calls.NamespaceCreate namespace limit) given = spaced_alike namespace limit
+  step_kept (calls.NamespaceRemove namespace) given = in_same namespace (λ n. namespace_remove_at s n)
   step_kept (calls.LeaseCreate namespace lease until) given = on_key namespace lease (λ n l place. lease_create_at s n l until)
   step_kept (calls.LeaseAdd namespace lease name) given = on_keys namespace lease name (λ n l k place. option_map_or (lease_add_record s n l k) (record_at place k s.records) (refused s NotFound))
   step_kept (calls.LeaseDrop namespace lease name) given = on_keys namespace lease name (λ n l k place. lease_drop_at s n l k)

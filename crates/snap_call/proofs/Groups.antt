@@ -540,3 +540,17 @@ page-next most asked after g rest infos more all is so_far =
     ∙ ap (λ l. infos ++ l) (sym (infos-append (most - length infos) asked (filter (is_key_after after) g) (filter (is_key_after after) rest)))
     ∙ sym (ap (λ l. infos ++ infos_of (most - length infos) asked l) (filter-append (is_key_after after) g rest))
     ∙ so_far
+
+-- ---- whether there are records
+
+first_none : (rs ts : List Record) → rs ++ ts ≡ [] → rs ≡ []
+first_none [] ts e = refl
+first_none (r ∷ rs) ts e = absurd (cc)
+
+pub groups-empty : {K : Type 0} (es : List (K × List Record)) → AllByRecursion (λ e. e.1 ≢ []) es → joined_records (values_of es) ≡ [] → length es ≡ 0
+groups-empty [] full none = refl
+groups-empty (e ∷ es) full none = absurd (full.0 (first_none e.1 (joined_records (values_of es)) none))
+
+pub groups-none : {K : Type 0} (es : List (K × List Record)) → length es ≡ 0 → joined_records (values_of es) ≡ []
+groups-none [] none = refl
+groups-none (e ∷ es) none = absurd (omega (arith, none))

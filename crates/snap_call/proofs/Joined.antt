@@ -1,9 +1,9 @@
 -- The records of all namespaces: what a change of one namespace's makes of them.
-use Rattle.std.proofs.Common.{◌≡◌, ℕ, zero, suc, ◌+◌, ◌-◌, ◌<◌, ◌≤◌, Bool, true, false, eqb-true, cond, List, [], ◌∷◌, ◌++◌, length, get_or, set, map, Some, None, refl, sym, ap, ◌∙◌, subst, arith, append_assoc, append-nil, take}
+use Rattle.std.proofs.Common.{◌≡◌, ℕ, zero, suc, ◌+◌, ◌-◌, ◌<◌, ◌≤◌, Bool, true, false, ◌≢◌, eqb-true, eq-eqb, cond, List, [], ◌∷◌, ◌++◌, length, get_or, set, map, Some, None, refl, sym, ap, ◌∙◌, subst, arith, append_assoc, append-nil, take}
 use Rattle.std.proofs.lemmas.List.{take_more}
 use Rattle.std.proofs.lemmas.List.Sums.{sum_by-append}
 use Rattle.std.proofs.lemmas.Bool.Decides.{nat_tests}
-use Rattle.std.specs.Prelude.{if◌then◌else◌, ◌==◌, ◌&&◌, ◌||◌, bytes_eq, filter, find}
+use Rattle.std.specs.Prelude.{if◌then◌else◌, ◌==◌, ◌&&◌, ◌||◌, not, IsTrue, bytes_eq, filter, find}
 use Rattle.std.specs.List.{AllByRecursion, list_any}
 use Rattle.std.specs.declared.cmp.Ordering.{Ordering}
 use Rattle.std.specs.declared.cmp.Ordering.TheVariants.{Less, Equal, Greater}
@@ -16,7 +16,7 @@ use Rattle.snap_record.specs.declared.record.Record.{Record}
 use Rattle.snap_record.specs.declared.filter.Filter.{Filter}
 use Rattle.snap_record.specs.Filters.{is_match}
 use Rattle.snap_record.specs.Records.{info_of}
-use Rattle.snap_call.specs.Records.{record_cmp, is_named, record_at, has_key, is_child, has_children, child_count, with_record, without_first, without_key, is_walked, info_page}
+use Rattle.snap_call.specs.Records.{record_cmp, is_named, record_at, has_key, has_records, is_child, has_children, child_count, with_record, without_first, without_key, is_walked, info_page}
 use Rattle.snap_call.specs.Spaces.{IsOf, AreFrom, AreCounted, joined_records, amended, edited_record, edited_at}
 use Rattle.snap_call.specs.declared.record_edit.RecordEdit.{RecordEdit}
 use Rattle.snap_call.proofs.Lists.{all-map, all-with_record, all-without}
@@ -403,3 +403,63 @@ module _ (place : ℕ) (after : Bytes) (asked : Filter) where
 
   pub joined-page-past : (most : ℕ) (rss : List (List Record)) → AreFrom 0 rss → length rss ≤ place → [] ≡ info_page place after most asked (joined_records rss)
   joined-page-past most rss from le = sym (ap (λ l. map info_of (take most l)) (unwalked-below (joined_records rss) (below-from 0 place rss (omega arith) from)) ∙ ap (map info_of) (take-nil most))
+
+-- ---- whether a namespace has records
+
+abbrev pub is_nil : {X : Type 0} → List X → Bool
+is_nil [] = true
+is_nil (x ∷ xs) = false
+
+pub nil_is : {X : Type 0} (b : Bool) (xs : List X) → (IsTrue b → xs ≡ []) × (xs ≡ [] → IsTrue b) → b ≡ is_nil xs
+nil_is true [] h = refl
+nil_is false [] h = h.1 refl
+nil_is true (x ∷ xs) h = let none : x ∷ xs ≡ [] = h.0 refl in absurd (cc)
+nil_is false (x ∷ xs) h = refl
+
+any-joined : (p : Record → Bool) (rs ts : List Record) → list_any p (rs ++ ts) ≡ (list_any p rs || list_any p ts)
+any-joined p [] ts = refl
+any-joined p (r ∷ rs) ts = by (p r) (any-joined p rs ts)
+  where
+    by : (b : Bool) → list_any p (rs ++ ts) ≡ (list_any p rs || list_any p ts) → (b || list_any p (rs ++ ts)) ≡ ((b || list_any p rs) || list_any p ts)
+    by true rest = refl
+    by false rest = rest
+
+of_other : (k place : ℕ) (rs : List Record) → IsOf k rs → k ≢ place → has_records place rs ≡ false
+of_other k place [] all other = refl
+of_other k place (r ∷ rs) all other =
+    ap (λ b. b || has_records place rs) (false_from_ne_true (r.namespace == place) (λ is. other (sym all.0 ∙ eqb-true r.namespace place is))) ∙ of_other k place rs all.1 other
+
+of_own : (k : ℕ) (rs : List Record) → IsOf k rs → has_records k rs ≡ not (is_nil rs)
+of_own k [] all = refl
+of_own k (r ∷ rs) all = ap (λ b. b || has_records k rs) (eq-eqb r.namespace k all.0)
+
+none_before : (k place : ℕ) (rss : List (List Record)) → AreFrom k rss → place < k → has_records place (joined_records rss) ≡ false
+none_before k place [] from low = refl
+none_before k place (rs ∷ rss) from low =
+    any-joined (λ r. r.namespace == place) rs (joined_records rss)
+    ∙ ap (λ b. b || has_records place (joined_records rss)) (of_other k place rs from.0 (λ same. omega (arith, low, same)))
+    ∙ none_before (suc k) place rss from.1 (omega (arith, low))
+
+pub records_at : (i k place : ℕ) (rss : List (List Record)) (d : List Record) → AreFrom k rss → place ≡ k + i → i < length rss → has_records place (joined_records rss) ≡ not (is_nil (get_or rss i d))
+records_at i k place [] d from is low = absurd (omega (arith, low))
+records_at zero k place (rs ∷ rss) d from is low =
+    let own : k ≡ place = omega (arith, is) in
+    any-joined (λ r. r.namespace == place) rs (joined_records rss)
+    ∙ ap (λ b. has_records place rs || b) (none_before (suc k) place rss from.1 (omega (arith, own)))
+    ∙ either_none (has_records place rs) ∙ subst (λ p. has_records p rs ≡ not (is_nil rs)) own (of_own k rs from.0)
+  where
+    either_none : (b : Bool) → (b || false) ≡ b
+    either_none true = refl
+    either_none false = refl
+records_at (suc i) k place (rs ∷ rss) d from is low =
+    any-joined (λ r. r.namespace == place) rs (joined_records rss)
+    ∙ ap (λ b. b || has_records place (joined_records rss)) (of_other k place rs from.0 (λ same. omega (arith, is, same)))
+    ∙ records_at i (suc k) place rss d from.1 (omega (arith, is)) (omega (arith, low))
+
+pub records_past : (i k place : ℕ) (rss : List (List Record)) → AreFrom k rss → place ≡ k + i → length rss ≤ i → has_records place (joined_records rss) ≡ false
+records_past i k place [] from is past = refl
+records_past zero k place (rs ∷ rss) from is past = absurd (omega (arith, past))
+records_past (suc i) k place (rs ∷ rss) from is past =
+    any-joined (λ r. r.namespace == place) rs (joined_records rss)
+    ∙ ap (λ b. b || has_records place (joined_records rss)) (of_other k place rs from.0 (λ same. omega (arith, is, same)))
+    ∙ records_past i (suc k) place rss from.1 (omega (arith, is)) (omega (arith, past))

@@ -1,10 +1,9 @@
 -- What each change of the state keeps true of it.
-use Rattle.std.proofs.Common.{◌≡◌, ◌≢◌, ℕ, ◌+◌, ◌<◌, ◌≤◌, Bool, true, false, true≢false, eqb, get_or, List, [], ◌∷◌, length, Option, Some, None, IsSome, eq-eqb, refl, sym, ap, ◌∙◌, subst, inl, inr, arith}
+use Rattle.std.proofs.Common.{◌≡◌, ◌≢◌, ℕ, ◌+◌, ◌<◌, ◌≤◌, Bool, true, false, true≢false, eqb, List, [], ◌∷◌, length, Option, Some, None, IsSome, eq-eqb, refl, sym, ap, ◌∙◌, subst, inl, inr, arith}
 use Rattle.std.specs.List.{AllByRecursion}
 use Rattle.std.specs.Option.{is_some}
 use Rattle.std.specs.Prelude.{◌&&◌, ◌==◌, bytes_eq, nat_le, not}
 use Rattle.std.proofs.lemmas.Bool.{and_parts, eqb-true, false_from_ne_true, cases_eq, leb-true}
-use Rattle.std.proofs.lemmas.List.Quantifiers.{position-Some}
 use Rattle.std.proofs.lemmas.Slice.Eq.{bytes_eq-Decides}
 use Rattle.snap_layer.specs.Tree.{Tree}
 use Rattle.snap_usage.specs.declared.usage.Usage.{Usage}
@@ -21,10 +20,10 @@ use Rattle.snap_record.specs.declared.record.Record.{Record}
 use Rattle.snap_call.specs.declared.config.Namespace.{Namespace}
 use Rattle.snap_call.specs.declared.state.State.{State}
 use Rattle.snap_call.specs.Records.{has_key, has_children, has_slot, is_named, is_slot, record_at, committed_at, active_at, charge_of, with_record, without_slot, without_key, recharged, relabelled, committed_as, HasLowSlot, AreApart}
-use Rattle.snap_call.specs.State.{place_of, name_at, limit_at, is_base, is_too_deep, ancestors, layers_of, most_ancestors, or_empty, shown_layers}
+use Rattle.snap_call.specs.State.{place_of, name_at, limit_at, is_taken_at, is_base, is_too_deep, ancestors, layers_of, most_ancestors, or_empty, shown_layers}
 use Rattle.snap_call.specs.Good.{IsGuarding, IsUsageCounted, IsShown, Good}
 use Rattle.snap_call.specs.Step.{counted, one, prepared, committed, leases_after, added, viewed, removed_at, new_record}
-use Rattle.snap_call.proofs.Leasing.{place_of-name_at, guarding-with_name}
+use Rattle.snap_call.proofs.Leasing.{name_at-place, place_of-name_at, place_of-taken, taken-below, guarding-with_name}
 use Rattle.snap_call.proofs.Lengths.{length-with_record, length-without, length-without_found, length-recharged, length-relabelled}
 use Rattle.snap_call.proofs.Lists.{all-map, all-both, committed-from, find-with_record_own, find-none, none-passes, record_at-is_named, same_slot, active_at-all, all-with_record, pairwise-with_record, all-without, pairwise-without, all-beside, all-recharged, pairwise-recharged}
 use Rattle.snap_call.proofs.InOrder.{sorted-with_record, sorted-without, sorted-recharged, has_key-without}
@@ -58,7 +57,11 @@ covers-Covers a b e =
 
 -- a place that is found is one of the places
 pub place_of-below : (name : Bytes) (ns : List Namespace) (place : ℕ) → place_of name ns ≡ Some place → place < length ns
-place_of-below name ns place e = (position-Some (λ (n : Namespace). bytes_eq n.name name) ns place (record { name = []; limit = no_usage }) e).0
+place_of-below name ns place e = taken-below place ns (place_of-taken name ns place e)
+
+-- each snapshot's place is one of the store's
+pub placed_below : (s : State) → Good s → AllByRecursion (λ r. r.namespace < length s.namespaces) s.records
+placed_below s good = all-map (λ r. is_taken_at r.namespace s.namespaces ≡ true) (λ r. r.namespace < length s.namespaces) (λ r taken. taken-below r.namespace s.namespaces taken) s.records good.placed
 
 -- ---- two records in slots
 
@@ -174,11 +177,11 @@ good_counted s good = good_counters s s.sessions (s.entries + 1) good
 -- ---- a new snapshot
 
 -- of a free key, on a base that is there, with the next id, in no slot of another, and within the limit
-pub good_added : (s : State) (r : Record) → Good s → r.namespace < length s.namespaces → has_key r.namespace r.key s.records ≡ false
+pub good_added : (s : State) (r : Record) → Good s → is_taken_at r.namespace s.namespaces ≡ true → has_key r.namespace r.key s.records ≡ false
     → is_base r.namespace r.parent s.records ≡ true → is_too_deep s.ancestors r.namespace r.parent s.records ≡ false → r.id ≡ s.next_id → IsUsageCounted r.content → HasLowSlot s.slots r.content → IsShown s.records r.namespace r.parent r.content
     → AllByRecursion (AreApart r) s.records → AllByRecursion (λ t. AreApart t r) s.records
     → Covers (limit_at r.namespace s.namespaces) (plus (charge_of r.namespace s.records) (usage_of r.content)) → Good (added s r)
-good_added s r good low free base deep next count few shown apart beside room = record {
+good_added s r good taken free base deep next count few shown apart beside room = record {
   root = good.root;
   parents = stand_parents ns rs ts keeps ts (all-with_record r (HasParent rs) rs base good.parents);
   leased = stand_leases ns rs ts keeps s.leases good.leased;
@@ -188,7 +191,7 @@ good_added s r good low free base deep next count few shown apart beside room = 
   limits = good.limits;
   short = good.short;
   distinct = good.distinct;
-  placed = all-with_record r (λ t. t.namespace < length ns) rs low good.placed;
+  placed = all-with_record r (λ t. is_taken_at t.namespace ns ≡ true) rs taken good.placed;
   sorted = sorted-with_record r rs free good.sorted;
   ids = pairwise-with_record r (λ t u. t.id ≢ u.id) rs
       (all-map (λ t. t.id < s.next_id) (λ t. r.id ≢ t.id) (λ t h. omega (arith, h, next)) rs good.numbered)
@@ -220,7 +223,7 @@ good_added s r good low free base deep next count few shown apart beside room = 
     chained : AllByRecursion (λ t. IsSome (chain s.ancestors rs t)) ts
     chained = all-with_record r (λ t. IsSome (chain s.ancestors rs t)) rs (chain-found s.ancestors rs r.namespace r.parent deep) good.chains
 
-pub good_prepared : (s : State) (place : ℕ) (key parent : Bytes) (labels : List Label) (slot : ℕ) → Good s → place < length s.namespaces → has_key place key s.records ≡ false
+pub good_prepared : (s : State) (place : ℕ) (key parent : Bytes) (labels : List Label) (slot : ℕ) → Good s → is_taken_at place s.namespaces ≡ true → has_key place key s.records ≡ false
     → is_base place parent s.records ≡ true → is_too_deep s.ancestors place parent s.records ≡ false → slot < s.slots → active_at slot s.records ≡ None
     → Covers (limit_at place s.namespaces) (plus (charge_of place s.records) one) → Good (prepared s place key parent labels slot).0
 good_prepared s place key parent labels slot good low free base deep few none room =
@@ -240,15 +243,15 @@ pub nothing_more : (limit total : Usage) → Covers limit total → Covers limit
 nothing_more limit total a = record { blocks = omega (arith, a.blocks); inodes = omega (arith, a.inodes) }
 
 -- a view is in no slot, and is charged nothing
-pub good_view_added : (s : State) (r : Record) → Good s → r.content ≡ View (shown_layers r.namespace r.parent s.records) → r.id ≡ s.next_id → r.namespace < length s.namespaces → has_key r.namespace r.key s.records ≡ false
+pub good_view_added : (s : State) (r : Record) → Good s → r.content ≡ View (shown_layers r.namespace r.parent s.records) → r.id ≡ s.next_id → is_taken_at r.namespace s.namespaces ≡ true → has_key r.namespace r.key s.records ≡ false
     → is_base r.namespace r.parent s.records ≡ true → is_too_deep s.ancestors r.namespace r.parent s.records ≡ false → Good (added s r)
 good_view_added s r good is next low free base deep =
     good_added s r good low free base deep next (subst IsUsageCounted (sym is) tt) (subst (HasLowSlot s.slots) (sym is) tt) (subst (IsShown s.records r.namespace r.parent) (sym is) refl)
     (all-map (λ t. HasLowSlot s.slots t.content) (AreApart r) (λ t h k held. absurd (true≢false (sym held ∙ ap (has_slot k) is))) s.records good.open_slots)
     (all-map (λ t. HasLowSlot s.slots t.content) (λ t. AreApart t r) (λ t h k held. ap (has_slot k) is) s.records good.open_slots)
-    (subst (λ (u : Usage). Covers (limit_at r.namespace s.namespaces) (plus (charge_of r.namespace s.records) u)) (sym (ap usage_of is)) (nothing_more (limit_at r.namespace s.namespaces) (charge_of r.namespace s.records) (good.within r.namespace low)))
+    (subst (λ (u : Usage). Covers (limit_at r.namespace s.namespaces) (plus (charge_of r.namespace s.records) u)) (sym (ap usage_of is)) (nothing_more (limit_at r.namespace s.namespaces) (charge_of r.namespace s.records) (good.within r.namespace (taken-below r.namespace s.namespaces low))))
 
-pub good_viewed : (s : State) (place : ℕ) (key parent : Bytes) (labels : List Label) → Good s → place < length s.namespaces → has_key place key s.records ≡ false
+pub good_viewed : (s : State) (place : ℕ) (key parent : Bytes) (labels : List Label) → Good s → is_taken_at place s.namespaces ≡ true → has_key place key s.records ≡ false
     → is_base place parent s.records ≡ true → is_too_deep s.ancestors place parent s.records ≡ false → Good (viewed s place key parent labels).0
 good_viewed s place key parent labels good low free base deep = good_view_added s (new_record s place key parent labels (View (shown_layers place parent s.records))) good refl refl low free base deep
 
@@ -272,7 +275,7 @@ module _ (slot : ℕ) (to : Usage) where
     limits = good.limits;
     short = good.short;
     distinct = good.distinct;
-    placed = all-recharged slot to (λ t. t.namespace < length ns) rs (λ t is h. h) good.placed;
+    placed = all-recharged slot to (λ t. is_taken_at t.namespace ns ≡ true) rs (λ t is h. h) good.placed;
     sorted = sorted-recharged slot to rs good.sorted;
     ids = pairwise-recharged slot to (λ t u. t.id ≢ u.id) rs (λ t u is h. h) (λ t u is h. h) good.ids;
     numbered = all-recharged slot to (λ t. t.id < s.next_id) rs (λ t is h. h) good.numbered;
@@ -308,7 +311,7 @@ module _ (slot : ℕ) (to : Usage) where
 pub covered : (s : State) (slot : ℕ) (r : Record) (to : Usage) → Good s → active_at slot s.records ≡ Some r → Covers (usage_of r.content) to → Covers (limit_at r.namespace s.namespaces) (charge_with r to s.records)
 covered s slot r to good e less =
     covers_less (limit_at r.namespace s.namespaces) (charge_of r.namespace s.records) (usage_of r.content) to
-    (good.within r.namespace (active_at-all (λ t. t.namespace < length s.namespaces) slot s.records r e good.placed))
+    (good.within r.namespace (active_at-all (λ t. t.namespace < length s.namespaces) slot s.records r e (placed_below s good)))
     (charge_of-covers (is_slot slot) s.records r e) less
 
 -- ---- a snapshot less
@@ -326,7 +329,7 @@ good_discarded s slot r good e = record {
   limits = good.limits;
   short = good.short;
   distinct = good.distinct;
-  placed = all-without (is_slot slot) (λ t. t.namespace < length ns) rs good.placed;
+  placed = all-without (is_slot slot) (λ t. is_taken_at t.namespace ns ≡ true) rs good.placed;
   sorted = sorted-without (is_slot slot) rs good.sorted;
   ids = pairwise-without (is_slot slot) (λ t u. t.id ≢ u.id) rs good.ids;
   numbered = all-without (is_slot slot) (λ t. t.id < s.next_id) rs good.numbered;
@@ -356,17 +359,13 @@ good_discarded s slot r good e = record {
     chained = all-without (is_slot slot) (λ t. IsSome (chain s.ancestors rs t)) rs good.chains
 
     low : r.namespace < length ns
-    low = active_at-all (λ t. t.namespace < length ns) slot rs r e good.placed
+    low = active_at-all (λ t. t.namespace < length ns) slot rs r e (placed_below s good)
 
 -- ---- a snapshot removed
 
 -- two texts with one place are one text
 pub same_name : (a b : Bytes) (ns : List Namespace) (place : ℕ) → place_of a ns ≡ Some place → place_of b ns ≡ Some place → a ≡ b
-same_name a b ns place e f =
-    let d : Namespace = record { name = []; limit = no_usage } in
-    let x : bytes_eq (get_or ns place d).name a ≡ true = (position-Some (λ (n : Namespace). bytes_eq n.name a) ns place d e).1 in
-    let y : bytes_eq (get_or ns place d).name b ≡ true = (position-Some (λ (n : Namespace). bytes_eq n.name b) ns place d f).1 in
-    sym ((bytes_eq-Decides (get_or ns place d).name a).0 x) ∙ (bytes_eq-Decides (get_or ns place d).name b).0 y
+same_name a b ns place e f = name_at-place a ns place e ∙ sym (name_at-place b ns place f)
 
 -- a lease that doesn't name the key in its namespace names other keys
 pub names_other : (namespace key : Bytes) (ns : List Namespace) (place : ℕ) → place_of namespace ns ≡ Some place → (l : Lease) → guards namespace key l ≡ false → AreNamed (IsOther place key) ns l
@@ -420,7 +419,7 @@ module _ (s : State) (place : ℕ) (key : Bytes) (r : Record) (good : Good s) (e
     limits = good.limits;
     short = good.short;
     distinct = good.distinct;
-    placed = all-without p (λ t. t.namespace < length ns) rs good.placed;
+    placed = all-without p (λ t. is_taken_at t.namespace ns ≡ true) rs good.placed;
     sorted = sorted-without p rs good.sorted;
     ids = pairwise-without p (λ t u. t.id ≢ u.id) rs good.ids;
     numbered = all-without p (λ t. t.id < s.next_id) rs good.numbered;
@@ -477,7 +476,7 @@ good_committed s slot name lease labels layer r good e free less = record {
   limits = good.limits;
   short = good.short;
   distinct = good.distinct;
-  placed = all-with_record c (λ t. t.namespace < length ns) us low (all-without (is_slot slot) (λ t. t.namespace < length ns) rs good.placed);
+  placed = all-with_record c (λ t. is_taken_at t.namespace ns ≡ true) us taken (all-without (is_slot slot) (λ t. is_taken_at t.namespace ns ≡ true) rs good.placed);
   sorted = sorted-with_record c us left (sorted-without (is_slot slot) rs good.sorted);
   ids = pairwise-with_record c (λ t u. t.id ≢ u.id) us
       (all-beside (is_slot slot) (λ t u. t.id ≢ u.id) (λ t. r.id ≢ t.id) rs r e (λ t h. h) (λ t h same. h (sym same)) good.ids)
@@ -519,7 +518,10 @@ good_committed s slot name lease labels layer r good e free less = record {
     keeps = Keeps-after rs us ts (Keeps-without_slot slot rs) (Keeps-with_record c us left)
 
     low : r.namespace < length ns
-    low = active_at-all (λ t. t.namespace < length ns) slot rs r e good.placed
+    low = active_at-all (λ t. t.namespace < length ns) slot rs r e (placed_below s good)
+
+    taken : is_taken_at r.namespace ns ≡ true
+    taken = active_at-all (λ t. is_taken_at t.namespace ns ≡ true) slot rs r e good.placed
 
     -- the name is that of a committed snapshot now
     there : IsSome (committed_at r.namespace name ts)
@@ -533,7 +535,7 @@ good_committed s slot name lease labels layer r good e free less = record {
 
     guarding : (l : Option Bytes) → AllByRecursion (IsGuarding ns ts) (leases_after s r.namespace name l)
     guarding None = stood
-    guarding (Some l) = guarding-with_name ns ts (name_at r.namespace ns) name r.namespace (place_of-name_at ns r.namespace good.distinct low) there l s.leases stood
+    guarding (Some l) = guarding-with_name ns ts (name_at r.namespace ns) name r.namespace (place_of-name_at ns r.namespace good.distinct taken) there l s.leases stood
 
     once : (l : Option Bytes) → AllByRecursion NamesOnce (leases_after s r.namespace name l)
     once None = good.named_once
@@ -558,7 +560,7 @@ good_relabelled s place key labels good = record {
   limits = good.limits;
   short = good.short;
   distinct = good.distinct;
-  placed = all-relabelled place key labels n (λ t. t.namespace < length ns) rs (λ t h. h) good.placed;
+  placed = all-relabelled place key labels n (λ t. is_taken_at t.namespace ns ≡ true) rs (λ t h. h) good.placed;
   sorted = sorted-relabelled place key labels n rs good.sorted;
   ids = pairwise-relabelled place key labels n (λ t u. t.id ≢ u.id) rs (λ t u h. h) (λ t u h. h) good.ids;
   numbered = all-relabelled place key labels n (λ t. t.id < s.next_id) rs (λ t h. h) good.numbered;

@@ -1,16 +1,16 @@
 -- Each step keeps what is true of the state, and so does the replay of a journal.
-use Rattle.std.proofs.Common.{◌≡◌, ℕ, zero, suc, ◌+◌, ◌<◌, ◌≤◌, Bool, true, false, List, [], ◌∷◌, length, Option, Some, None, refl, sym, ap, subst, arith}
+use Rattle.std.proofs.Common.{◌≡◌, ℕ, zero, suc, ◌+◌, ◌<◌, ◌≤◌, Bool, true, false, true≢false, List, [], ◌∷◌, length, Option, Some, None, refl, sym, ap, subst, arith}
 use Rattle.std.specs.List.{AllByRecursion, list_all, list_any}
 use Rattle.std.specs.List.Sorted.{IsStrictlySortedBy}
 use Rattle.std.specs.Option.{option_map_or, is_some}
-use Rattle.std.specs.Prelude.{if◌then◌else◌, ◌&&◌, ◌==◌, not, nat_lt, nat_le, Result, Ok, Err}
+use Rattle.std.specs.Prelude.{if◌then◌else◌, ◌&&◌, ◌||◌, ◌==◌, count_by, not, nat_lt, nat_le, Result, Ok, Err}
 use Rattle.std.proofs.lemmas.Bool.{and_parts}
 use Rattle.std.proofs.lemmas.Bool.Decides.{nat_tests}
 use Rattle.snap_path.specs.Limits.{most_number}
 use Rattle.snap_layer.specs.Tree.{Tree}
 use Rattle.snap_usage.specs.declared.usage.Usage.{Usage}
 use Rattle.snap_usage.specs.Counted.{count_of, covers}
-use Rattle.snap_lease.specs.Leases.{is_guarded, has_lease, lease_names}
+use Rattle.snap_lease.specs.Leases.{is_guarded, has_lease, has_leases, lease_names}
 use Rattle.snap_record.specs.Labels.{Bytes, Label}
 use Rattle.snap_record.specs.Records.{usage_of}
 use Rattle.snap_record.specs.Updates.{is_granted, is_well_formed, updated as labels_after}
@@ -29,15 +29,16 @@ use Rattle.snap_call.specs.declared.refusal.Refusal.TheVariants.{NoNamespace, No
 use Rattle.snap_call.specs.declared.reply.Reply.{Reply}
 use Rattle.snap_call.specs.declared.state.State.{State}
 use Rattle.snap_call.specs.Forms.{is_limit, is_layer_limit, is_ancestor_limit, is_namespace, is_slots, is_text, have_distinct_names, is_config, is_key, is_page, is_start}
-use Rattle.snap_call.specs.Records.{charge_of, has_key, has_children, is_active, is_committed, record_at, active_at, max_slots, max_journal, max_sessions}
-use Rattle.snap_call.specs.State.{opening, place_of, limit_at}
+use Rattle.snap_call.specs.Records.{charge_of, has_key, has_children, has_records, is_active, is_committed, record_at, active_at, max_slots, max_journal, max_sessions}
+use Rattle.snap_call.specs.State.{opening, is_taken, most_namespaces, place_of, limit_at}
 use Rattle.snap_call.specs.Good.{Good}
 use Rattle.snap_call.specs.Step.{are_formed, refused, prepared, prepare, greater, fits_limit, charge, trim, commit_as, commit, discard, ask, step, IsCovered, IsAllowed, place_for, slot_for, unless_refused, prepare_view, update_record, in_namespace, has_named, at_record}
-use Rattle.snap_call.specs.Steps.{session, remove, update, walk_infos, set_limit, lease_create, lease_add, lease_drop, lease_release}
-use Rattle.snap_call.proofs.Parts.{prepare_at, charge_to, view_at, remove_record, set_limit_at, lease_add_record, lease_drop_at}
+use Rattle.snap_call.specs.Steps.{session, remove, update, walk_infos, set_limit, namespace_create, namespace_remove, lease_create, lease_add, lease_drop, lease_release}
+use Rattle.snap_call.proofs.Parts.{prepare_at, charge_to, view_at, remove_record, set_limit_at, namespace_remove_at, lease_add_record, lease_drop_at}
 use Rattle.snap_call.specs.Journal.{Replays}
-use Rattle.snap_call.proofs.Leasing.{good_limited, good_created, good_dropped, good_named, good_released}
+use Rattle.snap_call.proofs.Leasing.{place_of-taken, good_limited, good_created, good_dropped, good_named, good_released}
 use Rattle.snap_call.proofs.Lists.{committed-from}
+use Rattle.snap_call.proofs.Spacing.{good_namespace, good_removed_namespace}
 use Rattle.snap_call.proofs.Sweeping.{good_sweep}
 use Rattle.snap_call.proofs.Lowest.{lowest_free-Some}
 use Rattle.snap_call.proofs.Places.{IsPlace, place_for-Ok, slot_for-Ok}
@@ -62,7 +63,7 @@ good_prepare_at s namespace key parent labels place good is =
     good_unless_refused s good (slot_for s place) (prepared s place key parent labels) (λ slot e.
     let found = slot_for-Ok s place slot e in
     let free = lowest_free-Some s.slots s.records slot found.lowest in
-    good_prepared s place key parent labels slot good (place_of-below namespace s.namespaces place is.named) is.free is.base is.deep free.0 free.1 (covers-Covers _ _ found.room))
+    good_prepared s place key parent labels slot good (place_of-taken namespace s.namespaces place is.named) is.free is.base is.deep free.0 free.1 (covers-Covers _ _ found.room))
 
 pub good_prepare : (s : State) (namespace key parent : Bytes) (labels : List Label) → Good s → Good (prepare s namespace key parent labels).0
 good_prepare s namespace key parent labels good =
@@ -72,7 +73,7 @@ good_prepare s namespace key parent labels good =
 good_view_at : (s : State) (namespace key parent : Bytes) (labels : List Label) (place : ℕ) → Good s → IsPlace s namespace key parent place → Good (view_at s key parent labels place).0
 good_view_at s namespace key parent labels place good is =
     either (nat_le s.next_id most_number) _ _
-    (λ few. good_viewed s place key parent labels good (place_of-below namespace s.namespaces place is.named) is.free is.base is.deep)
+    (λ few. good_viewed s place key parent labels good (place_of-taken namespace s.namespaces place is.named) is.free is.base is.deep)
     (λ spent. good_counted s good)
 
 pub good_view : (s : State) (namespace key parent : Bytes) (labels : List Label) → Good s → Good (prepare_view s namespace key parent labels).0
@@ -164,6 +165,23 @@ good_set_limit s namespace limit good =
     either (covers limit (charge_of place s.records)) _ _ (λ covered. good_limited limit s place good (place_of-below namespace s.namespaces place e) formed (covers-Covers _ _ covered)) (λ below. good_counted s good)))
     (λ bad. good_counted s good)
 
+pub good_namespace_create : (s : State) (namespace : Bytes) (limit : Usage) → Good s → Good (namespace_create s namespace limit).0
+good_namespace_create s namespace limit good =
+    let n : Namespace = record { name = namespace; limit = limit } in
+    either (is_namespace n) _ _
+    (λ formed. either (is_some (place_of namespace s.namespaces)) _ _ (λ there. good_counted s good)
+    (λ new. either (nat_lt (count_by is_taken s.namespaces) most_namespaces) _ _ (λ room. good_namespace s n good formed (no_place (place_of namespace s.namespaces) new)) (λ full. good_counted s good)))
+    (λ bad. good_counted s good)
+  where
+    no_place : (o : Option ℕ) → is_some o ≡ false → o ≡ None
+    no_place None e = refl
+    no_place (Some place) e = absurd (true≢false e)
+
+pub good_namespace_remove : (s : State) (namespace : Bytes) → Good s → Good (namespace_remove s namespace).0
+good_namespace_remove s namespace good =
+    good_in_namespace s namespace (namespace_remove_at s namespace) good (λ place e.
+    either (has_records place s.records || has_leases s.leases namespace) _ _ (λ full. good_counted s good) (λ empty. good_removed_namespace s namespace place good e empty))
+
 pub good_lease_create : (s : State) (namespace lease : Bytes) (until : Option ℕ) → Good s → Good (lease_create s namespace lease until).0
 good_lease_create s namespace lease until good =
     either (is_key lease) _ _
@@ -219,6 +237,8 @@ good_step s (calls.Remove namespace key) given good h = good_remove s namespace 
 good_step s (calls.Update namespace key labels paths) given good h = good_update s namespace key labels paths good
 good_step s (calls.Walk namespace after most asked) given good h = good_walk s namespace after most asked good
 good_step s (calls.SetLimit namespace limit) given good h = good_set_limit s namespace limit good
+good_step s (calls.NamespaceCreate namespace limit) given good h = good_namespace_create s namespace limit good
+good_step s (calls.NamespaceRemove namespace) given good h = good_namespace_remove s namespace good
 good_step s (calls.LeaseCreate namespace lease until) given good h = good_lease_create s namespace lease until good
 good_step s (calls.LeaseAdd namespace lease name) given good h = good_lease_add s namespace lease name good
 good_step s (calls.LeaseDrop namespace lease name) given good h = good_lease_drop s namespace lease name good
@@ -254,7 +274,7 @@ seven a b d f g h k e =
     (p.0, q.0, r.0, t.0, u.0, (and_parts k true u.1).0)
 
 abbrev are_spaces : List Namespace → Bool
-are_spaces ns = list_all is_namespace ns && nat_le (length ns) 64 && have_distinct_names ns
+are_spaces ns = list_all is_namespace ns && nat_le (length ns) most_namespaces && have_distinct_names ns
 
 parts_formed : (c : Config) → is_config c ≡ true
     → (is_root_text c.root ≡ true) × (are_spaces c.namespaces ≡ true) × (is_slots c.slots ≡ true) × (nat_le 1 c.first_id ≡ true) × (is_layer_limit c.layer_inodes ≡ true) × (is_ancestor_limit c.ancestors ≡ true)
@@ -267,7 +287,7 @@ root_formed c e = (parts_formed c e).0
 namespaces_formed : (c : Config) → is_config c ≡ true → (list_all is_namespace c.namespaces ≡ true) × (have_distinct_names c.namespaces ≡ true)
 namespaces_formed c e =
     let each = list_all is_namespace c.namespaces in
-    let few = nat_le (length c.namespaces) 64 in
+    let few = nat_le (length c.namespaces) most_namespaces in
     let formed = and_parts (each && few) (have_distinct_names c.namespaces) (parts_formed c e).1 in
     ((and_parts each few formed.0).0, formed.1)
 

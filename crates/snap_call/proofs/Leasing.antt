@@ -3,7 +3,7 @@ use Rattle.std.proofs.Common.{◌≡◌, ◌≢◌, ℕ, zero, suc, ◌<◌, ◌
 use Rattle.std.specs.List.{AllByRecursion, list_any, position_or_len}
 use Rattle.std.specs.Option.{option_map}
 use Rattle.std.specs.Prelude.{if◌then◌else◌, ◌&&◌, bytes_eq, filter, not, nat_lt, position, cond, slice_set, ◌||◌}
-use Rattle.std.proofs.lemmas.Bool.{and_parts, cases_eq, false_from_ne_true, not-true, lt-ltb}
+use Rattle.std.proofs.lemmas.Bool.{and_from, and_parts, cases_eq, false_from_ne_true, not-true, lt-ltb}
 use Rattle.std.proofs.lemmas.Bool.Decides.{nat_tests}
 use Rattle.std.proofs.lemmas.Slice.Eq.{bytes_eq-Decides}
 use Rattle.snap_usage.specs.declared.usage.Usage.{Usage}
@@ -19,16 +19,12 @@ use Rattle.snap_call.specs.declared.state.State.{State}
 use Rattle.snap_call.specs.Forms.{have_distinct_names, is_limit}
 use Rattle.snap_call.specs.Good.{IsGuarding, Good}
 use Rattle.snap_call.specs.Records.{charge_of, committed_at}
-use Rattle.snap_call.specs.State.{place_of, name_at, limit_at, with_limit}
+use Rattle.snap_call.specs.State.{place_of, name_at, limit_at, has_name, is_taken, is_taken_at, with_limit}
 use Rattle.snap_call.specs.Step.{limited_at, leasing}
 use Rattle.snap_call.proofs.Chains.{NamesStand}
 use Rattle.snap_call.proofs.Lists.{all-map, some_same}
 
 -- ---- the place of a name
-
--- a namespace of this name
-abbrev pub has_name : Bytes → Namespace → Bool
-has_name name n = bytes_eq n.name name
 
 module _ {X : Type 0} (p : X → Bool) where
   pub position-here : (x : X) (xs : List X) → p x ≡ true → position p (x ∷ xs) ≡ Some 0
@@ -49,25 +45,57 @@ module _ {X : Type 0} (p : X → Bool) where
       by true = refl
       by false = refl
 
--- the name at a place leads to it
-pub place_of-name_at : (ns : List Namespace) (place : ℕ) → have_distinct_names ns ≡ true → place < length ns → place_of (name_at place ns) ns ≡ Some place
-place_of-name_at [] place apart low = absurd (omega arith)
-place_of-name_at (n ∷ ns) zero apart low = position-here (has_name n.name) n ns ((bytes_eq-Decides n.name n.name).1 refl)
-place_of-name_at (n ∷ ns) (suc k) apart low =
+-- a namespace has its own name
+pub has_own : (n : Namespace) → is_taken n ≡ true → has_name n.name n ≡ true
+has_own n is = and_from (is_taken n) (bytes_eq n.name n.name) is ((bytes_eq-Decides n.name n.name).1 refl)
+
+-- a name that another has is its own
+pub name_is : (name : Bytes) (n : Namespace) → has_name name n ≡ true → n.name ≡ name
+name_is name n is = (bytes_eq-Decides n.name name).0 (and_parts (is_taken n) (bytes_eq n.name name) is).1
+
+pub taken_is : (name : Bytes) (n : Namespace) → has_name name n ≡ true → is_taken n ≡ true
+taken_is name n is = (and_parts (is_taken n) (bytes_eq n.name name) is).0
+
+-- the name at a place that is taken leads to it
+pub place_of-name_at : (ns : List Namespace) (place : ℕ) → have_distinct_names ns ≡ true → is_taken_at place ns ≡ true → place_of (name_at place ns) ns ≡ Some place
+place_of-name_at [] place apart taken = absurd (true≢false (sym taken))
+place_of-name_at (n ∷ ns) zero apart taken = position-here (has_name n.name) n ns (has_own n taken)
+place_of-name_at (n ∷ ns) (suc k) apart taken =
     let h = and_parts (not (list_any (has_name n.name) ns)) (have_distinct_names ns) apart in
-    position-past (has_name (name_at k ns)) n ns (other ns k (omega arith) (not-true (list_any (has_name n.name) ns) h.0)) ∙ ap (option_map (λ j. suc j)) (place_of-name_at ns k h.1 (omega arith))
+    position-past (has_name (name_at k ns)) n ns (other ns k taken (not-true (list_any (has_name n.name) ns) h.0)) ∙ ap (option_map (λ j. suc j)) (place_of-name_at ns k h.1 taken)
   where
-    other : (ms : List Namespace) (k : ℕ) → k < length ms → list_any (has_name n.name) ms ≡ false → has_name (name_at k ms) n ≡ false
-    other [] k low none = absurd (omega arith)
-    other (m ∷ ms) zero low none = false_from_ne_true (bytes_eq n.name m.name) (λ is. true≢false (sym (here is) ∙ none))
-      where
-        here : bytes_eq n.name m.name ≡ true → list_any (has_name n.name) (m ∷ ms) ≡ true
-        here is = rw ((bytes_eq-Decides m.name n.name).1 (sym ((bytes_eq-Decides n.name m.name).0 is))) refl
-    other (m ∷ ms) (suc k) low none = other ms k (omega arith) (rest (has_name n.name m) none)
-      where
-        rest : (b : Bool) → (b || list_any (has_name n.name) ms) ≡ false → list_any (has_name n.name) ms ≡ false
-        rest true e = absurd (true≢false e)
-        rest false e = e
+    rest : (b c : Bool) → (b || c) ≡ false → c ≡ false
+    rest true c e = absurd (true≢false e)
+    rest false c e = e
+
+    first : (b c : Bool) → (b || c) ≡ false → b ≡ false
+    first true c e = absurd (true≢false e)
+    first false c e = refl
+
+    other : (ms : List Namespace) (k : ℕ) → is_taken_at k ms ≡ true → list_any (has_name n.name) ms ≡ false → has_name (name_at k ms) n ≡ false
+    other [] k taken none = absurd (true≢false (sym taken))
+    other (m ∷ ms) zero taken none = false_from_ne_true (has_name m.name n)
+        (λ is. true≢false (sym (subst (λ (name : Bytes). has_name name m ≡ true) (sym (name_is m.name n is)) (has_own m taken)) ∙ first (has_name n.name m) (list_any (has_name n.name) ms) none))
+    other (m ∷ ms) (suc k) taken none = other ms k taken (rest (has_name n.name m) (list_any (has_name n.name) ms) none)
+
+-- a place that is taken is one of the list's
+pub taken-below : (place : ℕ) (ns : List Namespace) → is_taken_at place ns ≡ true → place < length ns
+taken-below place [] taken = absurd (true≢false (sym taken))
+taken-below zero (n ∷ ns) taken = omega arith
+taken-below (suc place) (n ∷ ns) taken = let low = taken-below place ns taken in omega (arith, low)
+
+-- the place of a name is taken
+pub place_of-taken : (name : Bytes) (ns : List Namespace) (place : ℕ) → place_of name ns ≡ Some place → is_taken_at place ns ≡ true
+place_of-taken name [] place e = absurd (cc)
+place_of-taken name (n ∷ ns) place e = by (has_name name n) refl (place_of-taken name ns)
+  where
+    under : (o : Option ℕ) → ((k : ℕ) → o ≡ Some k → is_taken_at k ns ≡ true) → option_map (λ k. suc k) o ≡ Some place → is_taken_at place (n ∷ ns) ≡ true
+    under None next f = absurd (cc)
+    under (Some k) next f = subst (λ (j : ℕ). is_taken_at j (n ∷ ns) ≡ true) (some_same (suc k) place f) (next k refl)
+
+    by : (b : Bool) → has_name name n ≡ b → ((k : ℕ) → place_of name ns ≡ Some k → is_taken_at k ns ≡ true) → is_taken_at place (n ∷ ns) ≡ true
+    by true is next = subst (λ (j : ℕ). is_taken_at j (n ∷ ns) ≡ true) (some_same 0 place (sym (position-here (has_name name) n ns is) ∙ e)) (taken_is name n is)
+    by false out next = under (place_of name ns) next (sym (position-past (has_name name) n ns out) ∙ e)
 
 -- and is the one that was looked for
 pub name_at-place : (name : Bytes) (ns : List Namespace) (place : ℕ) → place_of name ns ≡ Some place → name ≡ name_at place ns
@@ -79,7 +107,7 @@ name_at-place name (n ∷ ns) place e = by (has_name name n) refl (name_at-place
     under (Some k) next f = subst (λ (j : ℕ). name ≡ name_at j (n ∷ ns)) (some_same (suc k) place f) (next k refl)
 
     by : (b : Bool) → has_name name n ≡ b → ((k : ℕ) → place_of name ns ≡ Some k → name ≡ name_at k ns) → name ≡ name_at place (n ∷ ns)
-    by true is next = subst (λ (j : ℕ). name ≡ name_at j (n ∷ ns)) (some_same 0 place (sym (position-here (has_name name) n ns is) ∙ e)) (sym ((bytes_eq-Decides n.name name).0 is))
+    by true is next = subst (λ (j : ℕ). name ≡ name_at j (n ∷ ns)) (some_same 0 place (sym (position-here (has_name name) n ns is) ∙ e)) (sym (name_is name n is))
     by false out next = under (place_of name ns) next (sym (position-past (has_name name) n ns out) ∙ e)
 
 -- ---- another limit
@@ -108,8 +136,15 @@ module _ (limit : Usage) where
   place_of-limited name (suc place) (n ∷ ns) = by (has_name name n) refl (place_of-limited name place ns)
     where
       by : (b : Bool) → has_name name n ≡ b → place_of name (with_limit place limit ns) ≡ place_of name ns → place_of name (n ∷ with_limit place limit ns) ≡ place_of name (n ∷ ns)
-      by true is next = position-here (has_name name) n _ is ∙ sym (position-here (has_name name) n ns is)
-      by false out next = position-past (has_name name) n _ out ∙ (ap (option_map (λ k. suc k)) next ∙ sym (position-past (has_name name) n ns out))
+      by true is next = position-here (has_name name) n (with_limit place limit ns) is ∙ sym (position-here (has_name name) n ns is)
+      by false out next = position-past (has_name name) n (with_limit place limit ns) out ∙ (ap (option_map (λ k. suc k)) next ∙ sym (position-past (has_name name) n ns out))
+
+  taken-limited : (p place : ℕ) (ns : List Namespace) → is_taken_at p (with_limit place limit ns) ≡ is_taken_at p ns
+  taken-limited p place [] = refl
+  taken-limited zero zero (n ∷ ns) = refl
+  taken-limited (suc p) zero (n ∷ ns) = refl
+  taken-limited zero (suc place) (n ∷ ns) = refl
+  taken-limited (suc p) (suc place) (n ∷ ns) = taken-limited p place ns
 
   distinct-limited : (place : ℕ) (ns : List Namespace) → have_distinct_names (with_limit place limit ns) ≡ have_distinct_names ns
   distinct-limited place [] = refl
@@ -152,7 +187,7 @@ module _ (limit : Usage) where
     limits = limits_anew (λ p u. is_limit u ≡ true) place s.namespaces low is good.limits;
     short = short-limited place s.namespaces good.short;
     distinct = distinct-limited place s.namespaces ∙ good.distinct;
-    placed = subst (λ (m : ℕ). AllByRecursion (λ (r : Record). r.namespace < m) s.records) (sym (length-limited place s.namespaces)) good.placed;
+    placed = all-map (λ r. is_taken_at r.namespace s.namespaces ≡ true) (λ r. is_taken_at r.namespace (with_limit place limit s.namespaces) ≡ true) (λ r h. taken-limited r.namespace place s.namespaces ∙ h) s.records good.placed;
     sorted = good.sorted;
     ids = good.ids;
     numbered = good.numbered;

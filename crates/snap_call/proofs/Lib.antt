@@ -21,9 +21,11 @@ mod Indexed
 mod Referred
 mod Committing
 pub mod Leasing
+pub mod Naming
 pub mod Keeping
 pub mod Reaching
 pub mod Sweeping
+pub mod Spacing
 pub mod Kept
 pub mod Promising
 pub mod Cutting

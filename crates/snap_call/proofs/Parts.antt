@@ -1,23 +1,25 @@
 -- Parts of the steps of calls, which proofs by cases go through.
-use Rattle.std.specs.Prelude.{ℕ, ◌+◌, nat_le, List, [], ◌∷◌, ◌++◌, Option, Result, Ok, Err}
-use Rattle.std.specs.Option.{option_map_or}
+use Rattle.std.specs.Prelude.{ℕ, ◌+◌, ◌||◌, count_by, nat_le, nat_lt, List, [], ◌∷◌, ◌++◌, Option, Result, Ok, Err}
+use Rattle.std.specs.Option.{option_map_or, is_some}
 use Rattle.snap_path.specs.Limits.{most_number}
 use Rattle.snap_usage.specs.declared.usage.Usage.{Usage}
 use Rattle.snap_usage.specs.Counted.{covers}
 use Rattle.snap_ledger.specs.States.{plus}
 use Rattle.snap_lease.specs.Lease.{empty_lease}
-use Rattle.snap_lease.specs.Leases.{is_guarded, has_lease, lease_names, with_name_added, with_name_dropped, without_lease}
+use Rattle.snap_lease.specs.Leases.{is_guarded, has_lease, has_leases, lease_names, with_name_added, with_name_dropped, without_lease}
 use Rattle.snap_record.specs.Labels.{Bytes, Label}
 use Rattle.snap_record.specs.Records.{usage_of}
 use Rattle.snap_record.specs.declared.record.Record.{Record}
 use Rattle.snap_call.specs.declared.refusal.Refusal.{Refusal}
-use Rattle.snap_call.specs.declared.refusal.Refusal.TheVariants.{NotFound, NotCommitted, HasChildren, InUse, Leased, NoLease, LeaseExists, TooManyActives, BelowCharge, NumbersSpent}
+use Rattle.snap_call.specs.declared.refusal.Refusal.TheVariants.{BadArgument, NamespaceExists, TooManyNamespaces, NotEmpty, NotFound, NotCommitted, HasChildren, InUse, Leased, NoLease, LeaseExists, TooManyActives, BelowCharge, NumbersSpent}
 use Rattle.snap_call.specs.declared.reply.Reply.{Reply}
 use Rattle.snap_call.specs.declared.reply.Reply.TheVariants.{Charged, Removed, Done}
 use Rattle.snap_call.specs.declared.state.State.{State}
-use Rattle.snap_call.specs.Records.{has_children, is_active, is_committed, charge_of, recharged}
-use Rattle.snap_call.specs.State.{limit_at, over_limit}
-use Rattle.snap_call.specs.Step.{must, must_not, tested, refused, one, unless_refused, slot_for, prepared, viewed, removed_at, limited_at, leasing}
+use Rattle.snap_call.specs.Records.{has_children, has_records, is_active, is_committed, charge_of, recharged}
+use Rattle.snap_call.specs.declared.config.Namespace.{Namespace}
+use Rattle.snap_call.specs.Forms.{is_namespace}
+use Rattle.snap_call.specs.State.{is_taken, limit_at, most_namespaces, over_limit, place_of, with_namespace, without_namespace}
+use Rattle.snap_call.specs.Step.{must, must_not, tested, refused, one, unless_refused, slot_for, prepared, viewed, removed_at, limited_at, leasing, spacing}
 
 -- a prepare and a view, at the place of the namespace
 abbrev pub prepare_at : State → Bytes → Bytes → List Label → ℕ → State × Reply
@@ -58,3 +60,10 @@ lease_drop_at s namespace lease name =
 
 abbrev pub lease_release_at : State → Bytes → Bytes → State × Reply
 lease_release_at s namespace lease = tested (refused s) (must (has_lease s.leases namespace lease) NoLease ∷ []) (leasing s (without_lease s.leases namespace lease), Done)
+
+abbrev pub namespace_create_as : State → Namespace → State × Reply
+namespace_create_as s made =
+    tested (refused s) (must (is_namespace made) BadArgument ∷ must_not (is_some (place_of made.name s.namespaces)) NamespaceExists ∷ must (nat_lt (count_by is_taken s.namespaces) most_namespaces) TooManyNamespaces ∷ []) (spacing s (with_namespace made s.namespaces), Done)
+
+abbrev pub namespace_remove_at : State → Bytes → ℕ → State × Reply
+namespace_remove_at s namespace place = tested (refused s) (must_not (has_records place s.records || has_leases s.leases namespace) NotEmpty ∷ []) (spacing s (without_namespace place s.namespaces), Done)

@@ -1,18 +1,19 @@
 -- What holds of a state and one with an entry more and as many slots holds of a state and what a call leaves, but for a session, which may leave it as it was.
 use Rattle.std.proofs.Common.{◌≡◌, ℕ, ◌+◌, List, Bool, true, false, Some, None, refl}
-use Rattle.std.specs.Option.{option_map_or}
-use Rattle.std.specs.Prelude.{◌&&◌, nat_le, if◌then◌else◌, Option, Result, Ok, Err}
+use Rattle.std.specs.Option.{option_map_or, is_some}
+use Rattle.std.specs.Prelude.{◌&&◌, ◌||◌, nat_le, nat_lt, count_by, if◌then◌else◌, Option, Result, Ok, Err}
 use Rattle.snap_path.specs.Limits.{most_number}
 use Rattle.snap_layer.specs.Tree.{Tree}
 use Rattle.snap_usage.specs.declared.usage.Usage.{Usage}
 use Rattle.snap_usage.specs.Counted.{covers}
-use Rattle.snap_lease.specs.Leases.{is_guarded, has_lease, lease_names}
+use Rattle.snap_lease.specs.Leases.{is_guarded, has_lease, has_leases, lease_names}
 use Rattle.snap_record.specs.Labels.{Bytes, Label}
 use Rattle.snap_record.specs.Records.{usage_of, info_of}
 use Rattle.snap_record.specs.Updates.{is_granted, is_well_formed}
 use Rattle.snap_record.specs.declared.filter.Filter.{Filter}
 use Rattle.snap_record.specs.declared.record.Record.{Record}
 use Rattle.snap_call.specs.declared.call.Call.{Call}
+use Rattle.snap_call.specs.declared.config.Namespace.{Namespace}
 use Rattle.snap_call.specs.declared.call.Call.TheVariants as calls
 use Rattle.snap_call.specs.declared.call.Given.{Given}
 use Rattle.snap_call.specs.declared.call.Given.TheVariants.{Nothing, Count, Layer}
@@ -21,12 +22,12 @@ use Rattle.snap_call.specs.declared.refusal.Refusal.TheVariants.{NoNamespace, Nu
 use Rattle.snap_call.specs.declared.reply.Reply.{Reply}
 use Rattle.snap_call.specs.declared.reply.Reply.TheVariants.{Opened, Info, Usage as UsageReply, Refused}
 use Rattle.snap_call.specs.declared.state.State.{State}
-use Rattle.snap_call.specs.Forms.{is_key, is_limit, is_page, is_start}
-use Rattle.snap_call.specs.Records.{record_at, has_key, has_children, is_active, is_committed, active_at, charge_of}
-use Rattle.snap_call.specs.State.{place_of}
+use Rattle.snap_call.specs.Forms.{is_key, is_limit, is_namespace, is_page, is_start}
+use Rattle.snap_call.specs.Records.{record_at, has_key, has_records, has_children, is_active, is_committed, active_at, charge_of}
+use Rattle.snap_call.specs.State.{is_taken, most_namespaces, place_of}
 use Rattle.snap_call.specs.Step.{are_formed, refused, prepared, prepare, granted, charge, trim, commit_as, commit, discard, ask, step, place_for, slot_for, unless_refused, mounts, prepare_view, update_record, in_namespace, has_named, sweep_at, at_record}
-use Rattle.snap_call.specs.Steps.{session, remove, update, walk_infos, set_limit, lease_create, lease_add, lease_drop, lease_release}
-use Rattle.snap_call.proofs.Parts.{prepare_at, charge_to, view_at, remove_record, set_limit_at, lease_add_record, lease_drop_at}
+use Rattle.snap_call.specs.Steps.{session, remove, update, walk_infos, set_limit, namespace_create, namespace_remove, lease_create, lease_add, lease_drop, lease_release}
+use Rattle.snap_call.proofs.Parts.{prepare_at, charge_to, view_at, remove_record, set_limit_at, namespace_remove_at, lease_add_record, lease_drop_at}
 
 -- a session is counted where one is left
 abbrev pub opened : State → Bool → State × Reply
@@ -123,6 +124,14 @@ module _ (R : State → State → Type 0) (made : (s t : State) → t.slots ≡ 
   limiting : (s : State) (namespace : Bytes) (limit : Usage) → R s (set_limit s namespace limit).0
   limiting s namespace limit = either s (is_limit limit) _ _ (in_place s namespace (set_limit_at s limit) (λ place. either s (covers limit (charge_of place s.records)) _ _ (made _ _ refl refl) (made _ _ refl refl))) (made _ _ refl refl)
 
+  spacing_one : (s : State) (namespace : Bytes) (limit : Usage) → R s (namespace_create s namespace limit).0
+  spacing_one s namespace limit =
+      let n : Namespace = record { name = namespace; limit = limit } in
+      either s (is_namespace n) _ _ (either s (is_some (place_of namespace s.namespaces)) _ _ (made _ _ refl refl) (either s (nat_lt (count_by is_taken s.namespaces) most_namespaces) _ _ (made _ _ refl refl) (made _ _ refl refl))) (made _ _ refl refl)
+
+  unspacing : (s : State) (namespace : Bytes) → R s (namespace_remove s namespace).0
+  unspacing s namespace = in_place s namespace (namespace_remove_at s namespace) (λ place. either s (has_records place s.records || has_leases s.leases namespace) _ _ (made _ _ refl refl) (made _ _ refl refl))
+
   creating : (s : State) (namespace lease : Bytes) (until : Option ℕ) → R s (lease_create s namespace lease until).0
   creating s namespace lease until = either s (is_key lease) _ _ (in_place s namespace _ (λ place. either s (has_lease s.leases namespace lease) _ _ (made _ _ refl refl) (made _ _ refl refl))) (made _ _ refl refl)
 
@@ -156,6 +165,8 @@ module _ (R : State → State → Type 0) (made : (s t : State) → t.slots ≡ 
   stepped s (calls.Update namespace key labels paths) given opens = updating s namespace key labels paths
   stepped s (calls.Walk namespace after most asked) given opens = walking s namespace after most asked
   stepped s (calls.SetLimit namespace limit) given opens = limiting s namespace limit
+  stepped s (calls.NamespaceCreate namespace limit) given opens = spacing_one s namespace limit
+  stepped s (calls.NamespaceRemove namespace) given opens = unspacing s namespace
   stepped s (calls.LeaseCreate namespace lease until) given opens = creating s namespace lease until
   stepped s (calls.LeaseAdd namespace lease name) given opens = adding s namespace lease name
   stepped s (calls.LeaseDrop namespace lease name) given opens = dropping s namespace lease name

@@ -1,5 +1,5 @@
 -- What a sweep keeps true of the state, and what stays as it is.
-use Rattle.std.proofs.Common.{◌≡◌, ◌≢◌, ℕ, ◌<◌, Bool, true, false, true≢false, not, List, length, Option, Some, None, IsSome, refl, sym, ap, ◌∙◌, subst, arith}
+use Rattle.std.proofs.Common.{◌≡◌, ◌≢◌, ℕ, ◌<◌, Bool, true, false, true≢false, not, List, Option, Some, None, IsSome, refl, sym, ap, ◌∙◌, subst, arith}
 use Rattle.std.specs.List.{AllByRecursion, list_any}
 use Rattle.std.specs.Option.{option_map_or}
 use Rattle.std.specs.Prelude.{◌==◌, ◌&&◌, bytes_eq, find}
@@ -19,7 +19,7 @@ use Rattle.snap_call.specs.declared.config.Namespace.{Namespace}
 use Rattle.snap_call.specs.declared.refusal.Refusal.TheVariants.{NoNamespace}
 use Rattle.snap_call.specs.declared.state.State.{State}
 use Rattle.snap_call.specs.Records.{is_named, is_active, is_committed, has_slot, is_slot, record_at, active_at, committed_at, charge_of, charge_at, open_count, HasLowSlot, AreApart}
-use Rattle.snap_call.specs.State.{place_of, limit_at, ancestors, most_ancestors}
+use Rattle.snap_call.specs.State.{place_of, limit_at, is_taken_at, ancestors, most_ancestors}
 use Rattle.snap_call.specs.Reached.{is_ancestor, is_reached, is_swept, swept, unswept}
 use Rattle.snap_call.specs.Good.{IsGuarding, IsUsageCounted, IsShown, Good}
 use Rattle.snap_call.specs.Step.{refused, swept_at, sweep_at, sweep}
@@ -251,7 +251,7 @@ module _ (s : State) (namespace : Bytes) (place moment : ℕ) where
         limits = good.limits;
         short = good.short;
         distinct = good.distinct;
-        placed = all-filter (λ t. t.namespace < length ns) stays rs good.placed;
+        placed = all-filter (λ t. is_taken_at t.namespace ns ≡ true) stays rs good.placed;
         sorted = sorted-filter stays rs good.sorted;
         ids = pairwise-filter stays (λ t u. t.id ≢ u.id) rs good.ids;
         numbered = all-filter (λ t. t.id < s.next_id) stays rs good.numbered;

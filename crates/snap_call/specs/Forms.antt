@@ -1,5 +1,5 @@
 -- The forms that texts, limits and configurations must have.
-use Rattle.std.specs.Prelude.{ℕ, ◌==◌, Bool, true, not, ◌&&◌, nat_le, List, [], ◌∷◌, length, bytes_eq, Option, find}
+use Rattle.std.specs.Prelude.{ℕ, ◌==◌, Bool, true, not, ◌&&◌, nat_le, List, [], ◌∷◌, length, Option, find}
 use Rattle.std.specs.List.{list_any, list_all}
 use Rattle.snap_layer.specs.Counts.{most_inodes}
 use Rattle.snap_usage.specs.declared.usage.Usage.{Usage}
@@ -9,8 +9,8 @@ use Rattle.snap_call.specs.declared.config.Config.{Config}
 use Rattle.snap_call.specs.declared.config.ConfigField.{ConfigField}
 use Rattle.snap_call.specs.declared.config.ConfigField.TheVariants as fields
 use Rattle.snap_call.specs.declared.config.Namespace.{Namespace}
-use Rattle.snap_call.specs.Records.{max_slots, max_journal}
-use Rattle.snap_call.specs.State.{most_ancestors}
+use Rattle.snap_call.specs.Namespaces.{has_name, most_namespaces}
+use Rattle.snap_call.specs.Records.{max_slots, max_journal, most_ancestors}
 
 -- 1 to so many bytes, none of them NUL
 abbrev pub is_text : ℕ → Bytes → Bool
@@ -44,7 +44,7 @@ is_namespace n = is_text 255 n.name && is_limit n.limit
 -- no two namespaces have the same name
 abbrev pub have_distinct_names : List Namespace → Bool
 have_distinct_names [] = true
-have_distinct_names (n ∷ ns) = not (list_any (λ m. bytes_eq m.name n.name) ns) && have_distinct_names ns
+have_distinct_names (n ∷ ns) = not (list_any (has_name n.name) ns) && have_distinct_names ns
 
 -- how many slots a store can have
 abbrev pub is_slots : ℕ → Bool
@@ -58,10 +58,10 @@ is_layer_limit inodes = nat_le 1 inodes && nat_le inodes most_inodes
 abbrev pub is_ancestor_limit : ℕ → Bool
 is_ancestor_limit most = nat_le 1 most && nat_le most most_ancestors
 
--- the part of a configuration has its form; there are at most 64 namespaces, with distinct names
+-- the part of a configuration has its form; there are at most 4096 namespaces, with distinct names
 abbrev pub has_form : Config → ConfigField → Bool
 has_form c fields.Root = is_root_text c.root
-has_form c fields.Namespaces = list_all is_namespace c.namespaces && nat_le (length c.namespaces) 64 && have_distinct_names c.namespaces
+has_form c fields.Namespaces = list_all is_namespace c.namespaces && nat_le (length c.namespaces) most_namespaces && have_distinct_names c.namespaces
 has_form c fields.Slots = is_slots c.slots
 has_form c fields.Journal = nat_le c.journal max_journal
 has_form c fields.FirstId = nat_le 1 c.first_id

@@ -13,7 +13,7 @@ use Rattle.snap_call.specs.declared.config.Namespace.{Namespace}
 use Rattle.snap_call.specs.declared.state.State.{State}
 use Rattle.snap_call.specs.Forms.{is_limit, is_layer_limit, is_ancestor_limit, have_distinct_names}
 use Rattle.snap_call.specs.Records.{record_cmp, committed_at, charge_of, AllPairwise, AreApart, HasLowSlot, max_slots}
-use Rattle.snap_call.specs.State.{place_of, limit_at, chain_from, is_base, shown_layers}
+use Rattle.snap_call.specs.State.{place_of, limit_at, is_taken_at, chain_from, is_base, shown_layers}
 
 -- each snapshot that the lease names is a committed one of the lease's namespace
 abbrev pub IsGuarding : List Namespace → List Record → Lease → Type 0
@@ -52,7 +52,8 @@ pub record Good (s : State) : Type 0 where
   pub short : HasShortNames s
   -- no two namespaces have the same name
   pub distinct : have_distinct_names s.namespaces ≡ true
-  pub placed : AllByRecursion (λ r. r.namespace < length s.namespaces) s.records
+  -- each snapshot is one of a namespace that is there
+  pub placed : AllByRecursion (λ r. is_taken_at r.namespace s.namespaces ≡ true) s.records
   -- each key stands once in its namespace, and the records are in order
   pub sorted : IsStrictlySortedBy record_cmp s.records
   -- no two snapshots have the same id, and the next one is above all

@@ -40,6 +40,8 @@ kept s (calls.Remove namespace key) = calls.Remove (cut 255 namespace) (cut 1024
 kept s (calls.Update namespace key labels paths) = let given = kept_change (has_snapshot s namespace key) labels paths in calls.Update (cut 255 namespace) (cut 1024 key) given.0 given.1
 kept s (calls.Walk namespace after most asked) = calls.Walk (cut 255 namespace) (cut 1024 after) most (if is_start after && is_page most && has_namespace s namespace then asked else no_filter)
 kept s (calls.SetLimit namespace limit) = calls.SetLimit (cut 255 namespace) limit
+kept s (calls.NamespaceCreate namespace limit) = calls.NamespaceCreate (cut 255 namespace) limit
+kept s (calls.NamespaceRemove namespace) = calls.NamespaceRemove (cut 255 namespace)
 kept s (calls.LeaseCreate namespace lease until) = calls.LeaseCreate (cut 255 namespace) (cut 1024 lease) until
 kept s (calls.LeaseAdd namespace lease name) = calls.LeaseAdd (cut 255 namespace) (cut 1024 lease) (cut 1024 name)
 kept s (calls.LeaseDrop namespace lease name) = calls.LeaseDrop (cut 255 namespace) (cut 1024 lease) (cut 1024 name)

@@ -1,6 +1,7 @@
 pub mod Forms
 pub mod Results
 pub mod Records
+pub mod Namespaces
 pub mod Spaces
 pub mod State
 pub mod Reached

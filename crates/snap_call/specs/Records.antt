@@ -53,6 +53,10 @@ active_at slot rs = find (is_slot slot) rs
 abbrev pub is_child : ℕ → Bytes → Record → Bool
 is_child place key r = (r.namespace == place) && bytes_eq r.parent key
 
+-- whether the namespace at the place has a snapshot
+abbrev pub has_records : ℕ → List Record → Bool
+has_records place rs = list_any (λ r. r.namespace == place) rs
+
 -- whether the namespace has a snapshot on this parent
 abbrev pub has_children : ℕ → Bytes → List Record → Bool
 has_children place key rs = list_any (is_child place key) rs
@@ -144,6 +148,14 @@ info_page place after most asked rs = map info_of (take most (filter (is_walked 
 -- a record as it is once it is committed under a name, by the entry of this number: with the labels that are given, or with its own
 abbrev pub committed_as : Bytes → Option (List Label) → Tree → ℕ → Record → Record
 committed_as name labels layer number r = record r { key = name; labels = unwrap_or labels r.labels; content = Committed layer (count_of layer); created = number; updated = number }
+
+-- the most committed ancestors that a store can allow a snapshot: as many lower layers as Linux's overlayfs takes
+abbrev pub most_ancestors : ℕ
+most_ancestors = 500
+
+-- the most of a store whose opening doesn't say
+abbrev pub default_ancestors : ℕ
+default_ancestors = 64
 
 -- the slots of a store that isn't given a number of them
 abbrev pub default_slots : ℕ

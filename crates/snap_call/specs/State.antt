@@ -1,57 +1,30 @@
 -- The state of a store.
-use Rattle.std.specs.Prelude.{ℕ, zero, suc, Bool, true, List, [], ◌∷◌, Option, None, Some, option_and_then, unwrap_or, position, slice_get, map, filter_map, not, bytes_eq}
-use Rattle.std.specs.Option.{option_map, option_map_or, is_some}
+use Rattle.std.specs.Prelude.{ℕ, zero, suc, Bool, true, List, [], ◌∷◌, Option, None, Some, option_and_then, unwrap_or, map, filter_map, not}
+use Rattle.std.specs.Option.{option_map, is_some}
 use Rattle.snap_layer.specs.Edits.{root_only}
 use Rattle.snap_layer.specs.Tree.{Tree}
-use Rattle.snap_usage.specs.declared.usage.Usage.{Usage}
-use Rattle.snap_usage.specs.Counted.{no_usage}
 use Rattle.snap_ledger.specs.States.{minus}
 use Rattle.snap_record.specs.Labels.{Bytes}
 use Rattle.snap_record.specs.declared.record.Content.{Content}
 use Rattle.snap_record.specs.declared.record.Content.TheVariants.{Committed}
 use Rattle.snap_record.specs.declared.record.Record.{Record}
 use Rattle.snap_call.specs.declared.config.Config.{Config}
-use Rattle.snap_call.specs.declared.config.Namespace.{Namespace}
 use Rattle.snap_call.specs.declared.refusal.Refusal.{Refusal}
 use Rattle.snap_call.specs.declared.refusal.Refusal.TheVariants.{OverLimit}
 use Rattle.snap_call.specs.declared.state.State.{State}
 use Rattle.snap_call.specs.Records.{charge_of, has_key, committed_at}
+pub use Rattle.snap_call.specs.Namespaces.{vacant, is_taken, is_taken_at, has_name, place_of, limit_at, name_at, with_limit, with_namespace, without_namespace, most_namespaces}
+pub use Rattle.snap_call.specs.Records.{most_ancestors, default_ancestors}
 
 -- the state of a store that is opened: no records, no leases, no sessions, no entries
 abbrev pub opening : Config → State
 opening c = record { root = c.root; namespaces = c.namespaces; slots = c.slots; records = []; leases = []; next_id = c.first_id; sessions = 0; entries = 0; layer_inodes = c.layer_inodes; ancestors = c.ancestors }
-
--- the place of a namespace, if the store has it
-abbrev pub place_of : Bytes → List Namespace → Option ℕ
-place_of name ns = position (λ n. bytes_eq n.name name) ns
-
--- the limit of the namespace at a place
-abbrev pub limit_at : ℕ → List Namespace → Usage
-limit_at place ns = option_map_or (λ n. n.limit) (slice_get ns place) no_usage
-
--- the name of the namespace at a place
-abbrev pub name_at : ℕ → List Namespace → Bytes
-name_at place ns = option_map_or (λ n. n.name) (slice_get ns place) []
-
--- the namespaces once the one at a place has this limit
-abbrev pub with_limit : ℕ → Usage → List Namespace → List Namespace
-with_limit place limit [] = []
-with_limit zero limit (n ∷ ns) = record n { limit = limit } ∷ ns
-with_limit (suc place) limit (n ∷ ns) = n ∷ with_limit place limit ns
 
 -- the refusal of an amount that the limit doesn't cover, with what is free: the limit less the charge
 abbrev pub over_limit : State → ℕ → Refusal
 over_limit s place =
     let free = minus (limit_at place s.namespaces) (charge_of place s.records) in
     OverLimit free.blocks free.inodes
-
--- the most committed ancestors that a store can allow a snapshot: as many lower layers as Linux's overlayfs takes
-abbrev pub most_ancestors : ℕ
-most_ancestors = 500
-
--- the most of a store whose opening doesn't say
-abbrev pub default_ancestors : ℕ
-default_ancestors = 64
 
 -- the committed records from a parent upwards, nearest first; nothing where one is missing or isn't committed, or where there are more than so many
 abbrev pub chain_from : ℕ → List Record → ℕ → Bytes → Option (List Record)

@@ -1,33 +1,33 @@
 -- What one call answers, and the state after it. The refusals of each call stand in the order in which they are tested.
-use Rattle.std.specs.Prelude.{◌≡◌, ℕ, ◌+◌, ◌<◌, Bool, true, ◌&&◌, nat_le, nat_lt, if◌then◌else◌, List, [], ◌∷◌, ◌++◌, count_by, Option, None, Some, IsSomeAnd, max, Result, Ok, Err}
-use Rattle.std.specs.Option.{option_map_or}
+use Rattle.std.specs.Prelude.{◌≡◌, ℕ, ◌+◌, ◌<◌, Bool, true, ◌&&◌, ◌||◌, nat_le, nat_lt, if◌then◌else◌, List, [], ◌∷◌, ◌++◌, count_by, Option, None, Some, IsSomeAnd, max, Result, Ok, Err}
+use Rattle.std.specs.Option.{option_map_or, is_some}
 use Rattle.snap_path.specs.Limits.{most_number}
 use Rattle.snap_layer.specs.Tree.{Tree}
 use Rattle.snap_usage.specs.declared.usage.Usage.{Usage}
 use Rattle.snap_usage.specs.Counted.{count_of, Covers, covers}
 use Rattle.snap_ledger.specs.States.{plus, minus}
 use Rattle.snap_lease.specs.Lease.{Lease, empty_lease}
-use Rattle.snap_lease.specs.Leases.{is_guarded, has_lease, has_ended, lease_names, with_name_added, with_name_dropped, without_lease, without_ended}
+use Rattle.snap_lease.specs.Leases.{is_guarded, has_lease, has_leases, has_ended, lease_names, with_name_added, with_name_dropped, without_lease, without_ended}
 use Rattle.snap_record.specs.Labels.{Bytes, Label, are_labels}
 use Rattle.snap_record.specs.Records.{usage_of, info_of, kind_of}
 use Rattle.snap_record.specs.Updates.{is_granted, is_well_formed, updated as labels_after}
-use Rattle.snap_record.specs.declared.filter.Filter.{Filter}
 use Rattle.snap_record.specs.declared.record.Content.{Content}
 use Rattle.snap_record.specs.declared.record.Content.TheVariants.{View, Active}
 use Rattle.snap_record.specs.declared.record.Record.{Record}
 use Rattle.snap_mount.specs.Mounts.{mounts_of}
 use Rattle.snap_call.specs.declared.call.Call.{Call}
+use Rattle.snap_call.specs.declared.config.Namespace.{Namespace}
 use Rattle.snap_call.specs.declared.call.Call.TheVariants as calls
 use Rattle.snap_call.specs.declared.call.Given.{Given}
 use Rattle.snap_call.specs.declared.call.Given.TheVariants.{Count, Layer}
 use Rattle.snap_call.specs.declared.refusal.Refusal.{Refusal}
-use Rattle.snap_call.specs.declared.refusal.Refusal.TheVariants.{BadArgument, NoNamespace, NotFound, AlreadyExists, NotCommitted, NotActive, HasChildren, InUse, Leased, NoLease, LeaseExists, TooDeep, TooManyActives, BelowCharge, NumbersSpent}
+use Rattle.snap_call.specs.declared.refusal.Refusal.TheVariants.{BadArgument, NoNamespace, NamespaceExists, TooManyNamespaces, NotEmpty, NotFound, AlreadyExists, NotCommitted, NotActive, HasChildren, InUse, Leased, NoLease, LeaseExists, TooDeep, TooManyActives, BelowCharge, NumbersSpent}
 use Rattle.snap_call.specs.declared.reply.Reply.{Reply}
 use Rattle.snap_call.specs.declared.reply.Reply.TheVariants.{Opened, Prepared, Viewed, Charged, Trimmed, Committed, Discarded, Removed, Info, Page, Usage as UsageReply, Mounts as MountsReply, Done, Swept, Refused}
 use Rattle.snap_call.specs.declared.state.State.{State}
-use Rattle.snap_call.specs.Forms.{is_key, is_parent, is_page, is_start, is_limit}
-use Rattle.snap_call.specs.Records.{record_at, has_key, has_children, is_active, is_committed, active_at, charge_of, with_record, without_slot, without_key, recharged, relabelled, with_labels, info_page, committed_as, lowest_free, max_sessions}
-use Rattle.snap_call.specs.State.{place_of, name_at, limit_at, with_limit, over_limit, is_present, is_base, is_too_deep, ancestors, ids_of, shown_layers}
+use Rattle.snap_call.specs.Forms.{is_key, is_namespace, is_parent, is_page, is_start, is_limit}
+use Rattle.snap_call.specs.Records.{record_at, has_key, has_records, has_children, is_active, is_committed, active_at, charge_of, with_record, without_slot, without_key, recharged, relabelled, with_labels, info_page, committed_as, lowest_free, max_sessions}
+use Rattle.snap_call.specs.State.{place_of, name_at, limit_at, with_limit, with_namespace, without_namespace, is_taken, most_namespaces, over_limit, is_present, is_base, is_too_deep, ancestors, ids_of, shown_layers}
 use Rattle.snap_call.specs.Reached.{swept, swept_keys, unswept}
 
 -- one entry more
@@ -199,6 +199,10 @@ sweep_at s namespace moment place =
 abbrev pub sweep : State → Bytes → ℕ → State × Reply
 sweep s namespace moment = in_namespace s namespace (sweep_at s namespace moment)
 
+-- other namespaces, by this entry
+abbrev pub spacing : State → List Namespace → State
+spacing s ns = record s { namespaces = ns; entries = s.entries + 1 }
+
 -- one call: the state after it, and its reply
 abbrev pub step : State → Call → Given → State × Reply
 -- at most 65,536 sessions are opened
@@ -222,6 +226,13 @@ step s (calls.Walk namespace after most asked) given = tested (refused s) (must 
 -- a namespace's other limit has to cover what it is charged
 step s (calls.SetLimit namespace limit) given =
     tested (refused s) (must (is_limit limit) BadArgument ∷ []) (in_namespace s namespace (λ place. tested (refused s) (must (covers limit (charge_of place s.records)) BelowCharge ∷ []) (limited_at s place limit, Done)))
+-- a namespace is made, at the first free place
+step s (calls.NamespaceCreate namespace limit) given =
+    let made : Namespace = record { name = namespace; limit = limit } in
+    tested (refused s) (must (is_namespace made) BadArgument ∷ must_not (is_some (place_of namespace s.namespaces)) NamespaceExists ∷ must (nat_lt (count_by is_taken s.namespaces) most_namespaces) TooManyNamespaces ∷ []) (spacing s (with_namespace made s.namespaces), Done)
+-- a namespace goes that has no snapshot and no lease, and its place is free then
+step s (calls.NamespaceRemove namespace) given =
+    in_namespace s namespace (λ place. tested (refused s) (must_not (has_records place s.records || has_leases s.leases namespace) NotEmpty ∷ []) (spacing s (without_namespace place s.namespaces), Done))
 -- a lease that names nothing yet, with a last moment or none (containerd's leases.Manager.Create)
 step s (calls.LeaseCreate namespace lease until) given =
     tested (refused s) (must (is_key lease) BadArgument ∷ []) (in_namespace s namespace (λ place. tested (refused s) (must_not (has_lease s.leases namespace lease) LeaseExists ∷ []) (leasing s (s.leases ++ empty_lease namespace lease until ∷ []), Done)))

@@ -29,6 +29,14 @@ walk_infos s namespace after most asked = step s (calls.Walk namespace after mos
 abbrev pub set_limit : State → Bytes → Usage → State × Reply
 set_limit s namespace limit = step s (calls.SetLimit namespace limit) Nothing
 
+-- the step of NamespaceCreate
+abbrev pub namespace_create : State → Bytes → Usage → State × Reply
+namespace_create s namespace limit = step s (calls.NamespaceCreate namespace limit) Nothing
+
+-- the step of NamespaceRemove
+abbrev pub namespace_remove : State → Bytes → State × Reply
+namespace_remove s namespace = step s (calls.NamespaceRemove namespace) Nothing
+
 -- the step of LeaseCreate
 abbrev pub lease_create : State → Bytes → Bytes → Option ℕ → State × Reply
 lease_create s namespace lease until = step s (calls.LeaseCreate namespace lease until) Nothing

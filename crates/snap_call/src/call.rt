@@ -82,6 +82,15 @@ pub enum Call {
         most: u64,
         asked: Filter,
     },
+    /// Makes a namespace.
+    NamespaceCreate {
+        namespace: Text,
+        limit: Usage,
+    },
+    /// Takes a namespace away that has no snapshot and no lease.
+    NamespaceRemove {
+        namespace: Text,
+    },
     /// Gives a namespace another limit.
     SetLimit {
         namespace: Text,
@@ -189,6 +198,11 @@ impl Drop for Call {
                 most: _,
                 asked: _,
             } => {}
+            Call::NamespaceCreate {
+                namespace: _,
+                limit: _,
+            } => {}
+            Call::NamespaceRemove { namespace: _ } => {}
             Call::SetLimit {
                 namespace: _,
                 limit: _,

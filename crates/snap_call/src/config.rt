@@ -1,6 +1,7 @@
 ghost use Rattle.std.specs.Prelude.{◌≡◌, None, true, ◌↔◌, ◌&&◌, nat_le, length};
 ghost use Rattle.std.specs.List.{list_all};
 ghost use Rattle.snap_call.specs.Forms.{bad_field, have_distinct_names, is_ancestor_limit, is_config, is_layer_limit, is_namespace};
+ghost use Rattle.snap_call.specs.Namespaces.{is_taken, most_namespaces};
 
 use crate::forms::{are_namespaces, has_distinct_names, is_slots};
 use crate::limits::{MAX_ANCESTORS, MAX_JOURNAL, MAX_NAMESPACES};
@@ -24,7 +25,7 @@ pub struct Namespace {
 pub struct Config {
     /// The directory that the snapshots' directories lie in, as mount descriptions name it.
     pub root: Text,
-    /// At most 64 namespaces with distinct names.
+    /// At most 4096 namespaces with distinct names.
     pub namespaces: Sequence<Namespace>,
     /// How many snapshots may be open at one time, all namespaces together: 1 to 4096.
     pub slots: u64,
@@ -36,6 +37,16 @@ pub struct Config {
     pub layer_inodes: u64,
     /// The most committed ancestors of each snapshot: 1 to 500.
     pub ancestors: u64,
+}
+
+impl Namespace {
+    /// Whether it is one: a place that is free for a namespace has one without a name. Takes no memory. The
+    /// cost is constant.
+    pub fn is_taken(&self) -> bool
+        ensures { result ≡ is_taken self.now }
+    {
+        !self.name.is_empty()
+    }
 }
 
 /// A copy of the name.
@@ -64,7 +75,7 @@ pub enum ConfigField {
 
 /// Whether the namespaces have their forms, are no more than a store can have, and have distinct names.
 fn are_formed(namespaces: &[Namespace]) -> bool
-    ensures { result ≡ (list_all is_namespace namespaces.now && nat_le (length namespaces.now) 64 && have_distinct_names namespaces.now) }
+    ensures { result ≡ (list_all is_namespace namespaces.now && nat_le (length namespaces.now) most_namespaces && have_distinct_names namespaces.now) }
 {
     are_namespaces(namespaces)
         && namespaces.len() <= MAX_NAMESPACES

@@ -116,8 +116,8 @@ impl Call {
     /// So the call is answered as before and leaves the same, by this state, whose namespaces have names of at most 255
     /// bytes, as those of each store have. The paths of an update of a snapshot that is there, and the filter of a walk
     /// in a namespace that is there, stay as they are. Takes memory only for what is cut; fails only where it is wanting,
-    /// and then some texts may be cut. The cost grows with the numbers of labels, paths and namespaces, with the
-    /// logarithm of the number of records, and with what is cut.
+    /// and then some texts may be cut. The cost grows with the numbers of labels and paths, with the logarithms of
+    /// the numbers of namespaces and records, and with what is cut.
     #[tactic(auto, using(crate::proofs::Cutting::step_kept))]
     pub fn cut(&mut self, state: &State) -> Result<(), AllocError>
         ensures kept { OnOk result (self.new ≡ kept state.now self.old) }
@@ -183,6 +183,8 @@ impl Call {
                 cut_asked(state, namespace, after, *most, asked);
                 cut_pair(namespace, after)
             }
+            Call::NamespaceCreate { namespace, .. } => namespace.cut(MAX_NAMESPACE_BYTES),
+            Call::NamespaceRemove { namespace } => namespace.cut(MAX_NAMESPACE_BYTES),
             Call::SetLimit { namespace, .. } => namespace.cut(MAX_NAMESPACE_BYTES),
             Call::LeaseCreate {
                 namespace,

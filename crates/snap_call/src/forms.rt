@@ -1,5 +1,6 @@
-ghost use Rattle.std.specs.Prelude.{◌≡◌, ◌==◌, bytes_eq};
+ghost use Rattle.std.specs.Prelude.{◌≡◌, ◌==◌};
 ghost use Rattle.std.specs.List.{list_any, list_all};
+ghost use Rattle.snap_call.specs.Namespaces.{has_name};
 ghost use Rattle.snap_call.specs.Forms.{is_text, is_key, is_parent, is_page, is_slots, is_start, is_limit, is_namespace, have_distinct_names};
 
 use crate::config::Namespace;
@@ -69,7 +70,9 @@ pub fn is_limit(limit: Usage) -> bool
     limit.blocks <= MAX_LIMIT && limit.inodes <= MAX_LIMIT
 }
 
-fn is_namespace(namespace: &Namespace) -> bool
+/// Whether the namespace has the form of one: a name of 1 to 255 bytes without NUL, and a limit of at most
+/// 2^40 blocks and 2^40 inodes. Takes no memory. The cost grows with the name.
+pub fn is_namespace(namespace: &Namespace) -> bool
     ensures { result ≡ is_namespace namespace.now }
 {
     is_text(MAX_NAMESPACE_BYTES, namespace.name.as_str()) && is_limit(namespace.limit)
@@ -82,15 +85,15 @@ pub(crate) fn are_namespaces(namespaces: &[Namespace]) -> bool
     namespaces.iter().all(is_namespace)
 }
 
-/// Whether the namespace has this name.
+/// Whether it is a namespace of this name.
 fn has_name(namespace: &Namespace, name: &str) -> bool
-    ensures { result ≡ bytes_eq namespace.now.name name.now }
+    ensures { result ≡ has_name name.now namespace.now }
 {
-    namespace.name.as_str() == name
+    namespace.is_taken() && namespace.name.as_str() == name
 }
 
 fn is_named_in(namespaces: &[Namespace], name: &str) -> bool
-    ensures { result ≡ list_any (λ n. bytes_eq n.name name.now) namespaces.now }
+    ensures { result ≡ list_any (has_name name.now) namespaces.now }
 {
     namespaces.iter().any(|namespace| has_name(namespace, name))
 }

@@ -8,7 +8,7 @@ pub const MAX_KEY_BYTES: usize = 1024;
 pub const MAX_NAMESPACE_BYTES: usize = 255;
 
 /// The most namespaces of a store.
-pub const MAX_NAMESPACES: usize = 64;
+pub const MAX_NAMESPACES: usize = 4096;
 
 /// The most blocks and the most inodes of a namespace's limit: 2^40.
 pub const MAX_LIMIT: u64 = 1_099_511_627_776;

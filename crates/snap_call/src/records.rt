@@ -1,7 +1,7 @@
 ghost use Rattle.std.specs.Prelude.{◌≡◌, ◌<◌, ◌+◌, ◌^◌, [], true, false, map, length, option_copied, None, OnOk, OnErr, IfErr, IfOk, IsTrue, ◌↔◌, ℕ};
 ghost use Rattle.std.specs.List.{list_any};
 ghost use Rattle.std.specs.Option.{option_map, option_to_list};
-ghost use Rattle.snap_call.specs.Records.{record_at, has_key, has_children, child_count, is_slot, active_at, with_record, without_key, without_keys, without_slot, recharged, relabelled, info_page, lowest_free, HasLowSlot, max_slots};
+ghost use Rattle.snap_call.specs.Records.{record_at, has_key, has_records, has_children, child_count, is_slot, active_at, with_record, without_key, without_keys, without_slot, recharged, relabelled, info_page, lowest_free, HasLowSlot, max_slots};
 ghost use Rattle.snap_call.specs.Indexes.{slot_of};
 
 use crate::open_slots::{Name, OpenSlots};
@@ -87,6 +87,13 @@ impl Records {
         ensures { IsTrue result ↔ (self.now ≡ []) }
     {
         self.spaces.count == 0
+    }
+
+    /// Whether the namespace at the place has a snapshot. Takes no memory. The cost is constant.
+    pub fn has_any(&self, place: usize) -> bool
+        ensures { result ≡ has_records place self.now }
+    {
+        self.spaces.has_any(place)
     }
 
     /// Whether the namespace at the place has a snapshot of this key. Takes no memory.

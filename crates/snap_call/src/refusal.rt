@@ -12,13 +12,22 @@ use thiserror::Error;
 /// was but for the journal, which records the refused call.
 #[derive(Clone, Copy, Debug, PartialEq, Eq, Error)]
 pub enum Refusal {
-    /// A key, a name, a parent, a lease, a label, a limit or a part of a configuration has not its
-    /// form.
+    /// A key, a name, a parent, a lease, a label, a namespace, a limit or a part of a configuration has
+    /// not its form.
     #[error("bad argument")]
     BadArgument,
     /// The store has no such namespace.
     #[error("no such namespace")]
     NoNamespace,
+    /// The store has a namespace of this name already.
+    #[error("the namespace exists already")]
+    NamespaceExists,
+    /// The store has as many namespaces as it can have.
+    #[error("too many namespaces")]
+    TooManyNamespaces,
+    /// The namespace has a snapshot or a lease.
+    #[error("the namespace isn't empty")]
+    NotEmpty,
     /// The namespace has no snapshot of this key.
     #[error("not found")]
     NotFound,

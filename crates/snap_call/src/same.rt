@@ -145,6 +145,8 @@ pub(crate) fn is_same_call(a: &Call, b: &Call) -> bool
             most,
             asked,
         } => is_walk(b, namespace, after, *most, asked),
+        Call::NamespaceCreate { namespace, limit } => is_namespace_create(b, namespace, *limit),
+        Call::NamespaceRemove { namespace } => is_namespace_remove(b, namespace),
         Call::SetLimit { namespace, limit } => is_set_limit(b, namespace, *limit),
         Call::LeaseCreate {
             namespace,
@@ -341,6 +343,27 @@ fn is_walk(call: &Call, namespace: &Text, after: &Text, most: u64, asked: &Filte
             most: m,
             asked: f,
         } => *namespace == *n && *after == *a && most == *m && is_same_filter(asked, f),
+        _ => false,
+    }
+}
+
+fn is_namespace_create(call: &Call, namespace: &Text, limit: Usage) -> bool
+    ensures { IsTrue result ↔ (calls.NamespaceCreate namespace.now limit ≡ call.now) }
+{
+    match call {
+        Call::NamespaceCreate {
+            namespace: n,
+            limit: l,
+        } => *namespace == *n && limit == *l,
+        _ => false,
+    }
+}
+
+fn is_namespace_remove(call: &Call, namespace: &Text) -> bool
+    ensures { IsTrue result ↔ (calls.NamespaceRemove namespace.now ≡ call.now) }
+{
+    match call {
+        Call::NamespaceRemove { namespace: n } => *namespace == *n,
         _ => false,
     }
 }

@@ -1,6 +1,6 @@
 // The records of all namespaces.
 ghost use Rattle.std.specs.Prelude.{◌≡◌, ◌<◌, ◌+◌, ◌^◌, false, length, OnOk, OnErr, IfErr, vec_len};
-ghost use Rattle.snap_call.specs.Records.{record_at, has_key, with_record, without_key};
+ghost use Rattle.snap_call.specs.Records.{record_at, has_key, has_records, with_record, without_key};
 ghost use Rattle.snap_call.specs.Spaces.{AreCounted, AreFrom, joined_records, edited_at};
 
 use crate::record_edit::RecordEdit;
@@ -26,6 +26,17 @@ pub(crate) struct Spaces {
 }
 
 impl Spaces {
+    /// Whether the namespace at the place has a record.
+    pub(crate) fn has_any(&self, place: usize) -> bool
+        requires { AreCounted self.now.list.items self.now.count }
+        ensures { result ≡ has_records place (joined_records self.now.list.items) }
+    {
+        match self.list.get(place) {
+            Some(space) => !space.is_empty(),
+            None => false,
+        }
+    }
+
     /// Puts a record in its place. Where memory is wanting, the records are as they were and the
     /// error gives the record back.
     ///

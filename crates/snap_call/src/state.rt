@@ -1,16 +1,18 @@
-ghost use Rattle.std.specs.Prelude.{◌≡◌, ◌<◌, ◌+◌, ◌^◌, length, true, false, Some, IsSome, OnOk, OnErr, IfOk};
-ghost use Rattle.snap_call.specs.Forms.{is_config};
+ghost use Rattle.std.specs.Prelude.{◌≡◌, ◌<◌, ◌+◌, ◌^◌, ◌||◌, count_by, length, true, false, None, Some, IsSome, OnOk, OnErr, IfOk};
+ghost use Rattle.snap_call.specs.Forms.{is_config, is_namespace};
 ghost use Rattle.snap_call.specs.Good.{Good};
 ghost use Rattle.snap_call.specs.Promised.{Promised};
-ghost use Rattle.snap_call.specs.Records.{active_at, committed_as, has_key, info_page, with_record, without_slot};
-ghost use Rattle.snap_call.specs.State.{opening, place_of, name_at, limit_at, with_limit};
+ghost use Rattle.snap_call.specs.Records.{active_at, committed_as, has_key, has_records, info_page, with_record, without_slot};
+ghost use Rattle.snap_call.specs.State.{opening, place_of, name_at, limit_at, is_taken, is_taken_at, with_limit, with_namespace, without_namespace};
 ghost use Rattle.snap_call.specs.Step.{IsAllowed, step, has_named, leases_after};
 ghost use Rattle.snap_call.specs.declared.call.Call.{Call};
 ghost use Rattle.snap_call.specs.declared.call.Given.{Given};
 ghost use Rattle.snap_call.specs.declared.state.State.{State};
+ghost use Rattle.snap_lease.specs.Leases.{has_leases};
 ghost use Rattle.snap_record.specs.declared.record.Record.{Record};
 
 use crate::config::{Config, Namespace};
+use crate::namespaces::Namespaces;
 use crate::records::Records;
 use snap_layer::Shared;
 use snap_lease::{LeaseError, Leases};
@@ -23,7 +25,7 @@ use std::alloc::{AllocError, Global};
 pub struct State {
     /// The directory that the snapshots' directories lie in.
     pub root: Text,
-    pub namespaces: Sequence<Namespace>,
+    pub namespaces: Namespaces,
     /// How many snapshots may be open at one time. No call changes it.
     pub slots: u64,
     pub records: Records,
@@ -73,18 +75,18 @@ fn committed_as(
 
 impl State {
     /// The state of a store that is opened: the parts of the configuration, and no records, leases,
-    /// sessions and entries. Takes no memory.
-    pub fn opening(alloc: Global, config: Config) -> State
-        ensures opening { result ≡ opening config }
+    /// sessions and entries. Takes memory for a look-up of the namespaces; fails only where it is refused.
+    pub fn opening(alloc: Global, config: Config) -> Result<State, AllocError>
+        ensures opening { IfOk result (λ s. s ≡ opening config) }
         // What is true of it where a store can be opened with the configuration, and what each allowed
         // call keeps.
-        ensures good { is_config config ≡ true → Good result }
+        ensures good { is_config config ≡ true → Good (opening config) }
         ensures keeps { (s : State) (call : Call) (given : Given) → Good s → IsAllowed s call given → Good (step s call given).0 }
         ensures promised { (s : State) → Good s → Promised s }
     {
-        State {
+        Ok(State {
             root: config.root,
-            namespaces: config.namespaces,
+            namespaces: Namespaces::of(alloc, config.namespaces)?,
             slots: config.slots,
             records: Records::new(alloc),
             leases: Leases::new(alloc),
@@ -93,21 +95,51 @@ impl State {
             entries: 0,
             layer_inodes: config.layer_inodes,
             ancestors: config.ancestors,
-        }
+        })
     }
 
-    /// The place of the namespace of this name, if the store has it. Takes no memory. It goes over
-    /// the namespaces.
+    /// The place of the namespace of this name, if the store has it. Takes no memory. The cost grows with
+    /// the logarithm of the number of namespaces.
     pub fn place_of(&self, name: &str) -> Option<usize>
         ensures { result ≡ place_of name.now self.now.namespaces }
     {
-        let namespaces = self.namespaces.as_slice();
-        for (place, namespace) in namespaces.iter().enumerate() {
-            if namespace.name.as_str() == name {
-                return Some(place);
-            }
-        }
-        None
+        self.namespaces.place_of(name)
+    }
+
+    /// How many namespaces there are. Takes no memory. It goes over their places.
+    pub fn namespace_count(&self) -> usize
+        ensures { result ≡ count_by is_taken self.now.namespaces }
+    {
+        self.namespaces.count()
+    }
+
+    /// Whether the namespace at the place, which has this name, has a snapshot or a lease. Takes no memory.
+    /// The cost grows with the logarithm of the number of namespaces that have leases.
+    pub fn has_content(&self, place: usize, name: &str) -> bool
+        ensures { result ≡ (has_records place self.now.records || has_leases self.now.leases name.now) }
+    {
+        self.records.has_any(place) || self.leases.has_any(name)
+    }
+
+    /// Puts a namespace at the first free place. Takes memory for its place and a copy of its name; where
+    /// that is refused, nothing changes. It goes over the places.
+    pub fn add_namespace(&mut self, namespace: Namespace) -> Result<(), AllocError>
+        requires formed { is_namespace namespace ≡ true }
+        requires new { place_of namespace.name self.old.namespaces ≡ None }
+        ensures ok { OnOk result (self.new ≡ record self.old { namespaces = with_namespace namespace self.old.namespaces }) }
+        ensures err { OnErr result (self.new ≡ self.old) }
+    {
+        self.namespaces.add(namespace)
+    }
+
+    /// Takes the namespace at the place away, which is free then. Takes no memory. The cost grows with the
+    /// logarithm of the number of namespaces.
+    pub fn remove_namespace(&mut self, place: usize)
+        requires good { Good self.old }
+        requires taken { is_taken_at place self.old.namespaces ≡ true }
+        ensures { self.new ≡ record self.old { namespaces = without_namespace place self.old.namespaces } }
+    {
+        self.namespaces.remove(place);
     }
 
     /// Puts the namespace, which has another limit, in its place. Takes no memory. The cost is constant.
@@ -116,7 +148,7 @@ impl State {
         requires same { namespace.name ≡ name_at place self.old.namespaces }
         ensures { self.new ≡ record self.old { namespaces = with_limit place namespace.limit self.old.namespaces } }
     {
-        self.namespaces.set(place, namespace);
+        self.namespaces.set_limit(place, namespace);
     }
 
     /// Whether the namespace at the place has the lease, where one is given. Takes no memory. The cost
@@ -142,7 +174,7 @@ impl State {
         let Some(lease) = lease else {
             return Ok(());
         };
-        let Some(namespace) = self.namespaces.as_slice().get(place) else {
+        let Some(namespace) = self.namespaces.get(place) else {
             unreachable!()
         };
         match self
@@ -225,7 +257,7 @@ impl State {
     pub fn name_at(&self, place: usize) -> &str
         ensures { result.now ≡ name_at place self.now.namespaces }
     {
-        match self.namespaces.as_slice().get(place) {
+        match self.namespaces.get(place) {
             Some(namespace) => namespace.name.as_str(),
             None => "",
         }
@@ -235,7 +267,7 @@ impl State {
     pub fn limit_at(&self, place: usize) -> Usage
         ensures { result ≡ limit_at place self.now.namespaces }
     {
-        match self.namespaces.as_slice().get(place) {
+        match self.namespaces.get(place) {
             Some(namespace) => namespace.limit,
             None => Usage::ZERO,
         }

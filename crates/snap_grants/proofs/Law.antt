@@ -102,6 +102,8 @@ module _ (origin : ℕ → Origin) (s : State) (all : AllCome origin s) where
   moves (calls.Commit slot id name lease labels) given keeps allowed is = moves_commit slot id name lease labels given allowed
   moves (calls.Remove namespace key) given keeps allowed is = absurd keeps
   moves (calls.Sweep namespace moment) given keeps allowed is = absurd keeps
+  moves (calls.NamespaceCreate namespace limit) given keeps allowed is = absurd keeps
+  moves (calls.NamespaceRemove namespace) given keeps allowed is = absurd keeps
   moves call given keeps allowed is = plain call given (step s call given) (stays s call given tt) (λ h. refl)
 
 -- ---- the journal

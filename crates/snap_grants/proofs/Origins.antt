@@ -67,6 +67,8 @@ module _ (s : State) where
   numbers (calls.Commit slot id name lease labels) given keeps = record { grows = (let e = same_commit slot name lease labels given in omega (arith, e)); later = λ at rest low. refl; told = λ origin rest same. tt }
   numbers (calls.Remove namespace key) given keeps = absurd keeps
   numbers (calls.Sweep namespace moment) given keeps = absurd keeps
+  numbers (calls.NamespaceCreate namespace limit) given keeps = absurd keeps
+  numbers (calls.NamespaceRemove namespace) given keeps = absurd keeps
   numbers call given keeps = record { grows = (stays s call given tt).grows; later = λ at rest low. refl; told = λ origin rest same. tt }
 
 -- whatever says of each id to come what the journal says

@@ -50,12 +50,14 @@ pub record Stays (s t : State) : Type 0 where
   pub same : (h : Stored → ℕ) → worth h t ≡ worth h s
   pub grows : s.next_id ≤ t.next_id
 
--- a call that isn't Prepare or Commit, and keeps what is committed
+-- a call that isn't Prepare or Commit, and keeps what is committed and the places of the namespaces
 abbrev pub IsPlain : Call → Type 0
 IsPlain (calls.Prepare namespace key parent labels) = ⊥
 IsPlain (calls.Commit slot id name lease labels) = ⊥
 IsPlain (calls.Remove namespace key) = ⊥
 IsPlain (calls.Sweep namespace moment) = ⊥
+IsPlain (calls.NamespaceCreate namespace limit) = ⊥
+IsPlain (calls.NamespaceRemove namespace) = ⊥
 IsPlain call = Unit {0}
 
 module _ (s : State) where

@@ -33,10 +33,12 @@ pub record Origin : Type 0 where
 
 -- ---- the journals that are spoken of
 
--- a call that takes no committed snapshot away: any but Remove and Sweep
+-- a call that takes no committed snapshot away and leaves the places of the namespaces: any but Remove, Sweep, NamespaceCreate and NamespaceRemove
 abbrev pub IsKeeping : Call → Type 0
 IsKeeping (calls.Remove namespace key) = ⊥
 IsKeeping (calls.Sweep namespace moment) = ⊥
+IsKeeping (calls.NamespaceCreate namespace limit) = ⊥
+IsKeeping (calls.NamespaceRemove namespace) = ⊥
 IsKeeping call = Unit {0}
 
 -- each entry's call is one

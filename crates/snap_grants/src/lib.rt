@@ -8,9 +8,9 @@ ghost use Rattle.snap_call.specs.declared.entry.Entry.{Entry};
 ghost use Rattle.snap_call.specs.declared.state.State.{State};
 ghost use Rattle.snap_grants.specs.Grants.{AreKeeping, AreOrigins, origin_in, CommittedLaw, AreBelow, TapesLaw};
 
-/// Does nothing: its clauses are laws. Where a journal without Remove and Sweep replays from a state
-/// without open snapshots, the committed snapshots at its end are those of the start and one for each
-/// granted Commit.
+/// Does nothing: its clauses are laws. Where a journal without Remove, Sweep, NamespaceCreate and
+/// NamespaceRemove replays from a state without open snapshots, the committed snapshots at its end
+/// are those of the start and one for each granted Commit.
 #[tactic(auto, using(crate::proofs::Law::committed_law, crate::proofs::Origins::origins, crate::proofs::Tapes::tapes_law))]
 pub fn granted_commits()
     // Each has the name, the id and the layer of its Commit, and the namespace and the parent of that

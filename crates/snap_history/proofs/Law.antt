@@ -1,10 +1,12 @@
 -- The charges that the entries tell are those of the states that they lead to.
 use Rattle.std.proofs.Common.{inl, inr, ◌≡◌, ℕ, zero, suc, ◌+◌, ◌≤◌, ◌<◌, List, [], ◌∷◌, ◌++◌, length, length-append, map, true, Option, Some, None, refl, sym, ap, ◌∙◌, subst, arith}
-use Rattle.std.specs.Option.{option_map}
+use Rattle.std.specs.Option.{option_map, option_map_or}
 use Rattle.std.proofs.Math.Nat.{min-eq_left}
 use Rattle.std.specs.Prelude.{nat_le, if◌then◌else◌, min}
 use Rattle.std.proofs.lemmas.Bool.{and_parts, cases_eq, leb-true}
+use Rattle.std.proofs.lemmas.List.{get_or-replicate, length-replicate}
 use Rattle.snap_usage.specs.declared.usage.Usage.{Usage}
+use Rattle.snap_usage.specs.Counted.{no_usage}
 use Rattle.snap_ledger.specs.States.{plus, minus}
 use Rattle.snap_record.specs.Labels.{Bytes}
 use Rattle.snap_record.specs.declared.record.Record.{Record}
@@ -22,13 +24,13 @@ use Rattle.snap_call.proofs.Kept.{good_step}
 use Rattle.snap_call.proofs.Replaying.{step-entries}
 use Rattle.snap_call.proofs.Sums.{usage, minus-plus}
 use Rattle.snap_history.specs.Entries.{entry_info}
-use Rattle.snap_history.specs.History.{history, is_call_of, namespace_in, slot_in}
-use Rattle.snap_history.specs.Changes.{change_by, change_of, changes_of, charge_before, entry_infos_of, is_own, share_of_slot, shares_after, shares_by, turned}
-use Rattle.snap_history.specs.Open.{open_below, open_share, share_for, shares_of}
+use Rattle.snap_history.specs.History.{history, is_call_of, namespace_charge, namespace_in, slot_in}
+use Rattle.snap_history.specs.Changes.{change_by, change_of, changes_of, charge_before, entry_infos_of, is_own, no_shares, share_of_slot, shares_after, shares_by, turned}
+use Rattle.snap_history.specs.Open.{namespace_shares, open_below, open_share, share_for, shares_of}
 use Rattle.snap_history.specs.declared.change.Change.{Change}
 use Rattle.snap_history.specs.declared.open.OpenShare.{OpenShare}
-use Rattle.snap_history.proofs.Names.{Replays-names}
-use Rattle.snap_history.proofs.Turning.{Holds, Turns, share_by, turns, own}
+use Rattle.snap_history.proofs.Placed.{Stands, share_named, step-place}
+use Rattle.snap_history.proofs.Turning.{HoldsAt, IsPlaceOf, TurnsAt, share_by, turns, own}
 
 -- no number of it comes near 2^64
 record IsSmall (u : Usage) : Type 0 where
@@ -53,48 +55,87 @@ limit_parts u is =
     let h = and_parts (nat_le u.blocks 1099511627776) (nat_le u.inodes 1099511627776) is in
     record { blocks = leb-true _ _ h.0; inodes = leb-true _ _ h.1 }
 
-small_charge : (name : Bytes) (place : ℕ) (s : State) → Good s → place_of name s.namespaces ≡ Some place → IsSmall (charge_of place s.records)
-small_charge name place s good named =
-    let inside = place_of-below name s.namespaces place named in
-    let limit = limit_parts (limit_at place s.namespaces) (good.limits place inside) in
-    let within = good.within place inside in
-    record { blocks = (let p = limit.blocks in let q = within.blocks in omega arith); inodes = (let p = limit.inodes in let q = within.inodes in omega arith) }
+small_charge : (name : Bytes) (s : State) → Good s → IsSmall (namespace_charge name s)
+small_charge name s good = by (place_of name s.namespaces) refl
+  where
+    by : (o : Option ℕ) → place_of name s.namespaces ≡ o → IsSmall (option_map_or (λ place. charge_of place s.records) o no_usage)
+    by None unnamed = record { blocks = omega arith; inodes = omega arith }
+    by (Some place) named =
+        let inside = place_of-below name s.namespaces place named in
+        let limit = limit_parts (limit_at place s.namespaces) (good.limits place inside) in
+        let within = good.within place inside in
+        record { blocks = (let p = limit.blocks in let q = within.blocks in omega arith); inodes = (let p = limit.inodes in let q = within.inodes in omega arith) }
 
--- one entry, whose reply is the step's
-told : (name : Bytes) (place : ℕ) (s : State) (shares : List (Option Usage)) (e : Entry) → Good s → Holds name place shares s → IsAllowed s e.call e.given → e.reply ≡ (step s e.call e.given).1
-    → Turns name place s (shares_after name shares e) (change_of name shares e) (step s e.call e.given).0
+-- ---- one entry
+
+-- the table has what the open snapshots of the namespace of this name are charged
+record Holds (name : Bytes) (shares : List (Option Usage)) (s : State) : Type 0 where
+  places : length shares ≡ s.slots
+  agrees : (slot : ℕ) → slot < s.slots → share_of_slot slot shares ≡ share_named name s (active_at slot s.records)
+
+-- what the entry tells of the namespace of this name, where it leads from the state s to the state t: the shares, whether it is one of the namespace, and the parts of the charge before and after it; the rest is the same
+record Tells (name : Bytes) (s : State) (shares : List (Option Usage)) (e : Entry) (t : State) : Type 0 where
+  holds : Holds name (shares_after name shares e) t
+  own : is_own name shares e.call ≡ is_call_of name s e.call
+  rest : Usage
+  before : namespace_charge name s ≡ plus rest (change_of name shares e).found
+  after : namespace_charge name t ≡ plus rest (change_of name shares e).left
+
+-- what is told of a place, by an entry whose reply is the step's
+turned_at : (name : Bytes) (place : ℕ) (s : State) (shares : List (Option Usage)) (e : Entry) → Good s → IsPlaceOf name place s → HoldsAt place shares s → IsAllowed s e.call e.given → e.reply ≡ (step s e.call e.given).1
+    → TurnsAt place s (shares_after name shares e) (change_of name shares e) (step s e.call e.given).0
 unfolding shares_after change_of
-told name place s shares e good held allowed is =
-    subst (λ (a : Reply). Turns name place s (shares_by name shares e.given a (namespace_in e.call) (slot_in e.call)) (change_by name shares e.given a (namespace_in e.call) (slot_in e.call)) (step s e.call e.given).0) (sym is)
-    (turns name place s shares good held e.call e.given allowed)
+turned_at name place s shares e good owned held allowed is =
+    subst (λ (a : Reply). TurnsAt place s (shares_by name shares e.given a (namespace_in e.call) (slot_in e.call)) (change_by name shares e.given a (namespace_in e.call) (slot_in e.call)) (step s e.call e.given).0) (sym is)
+    (turns name place s shares good owned held e.call e.given allowed)
+
+-- the same by the name
+told : (name : Bytes) (s : State) (shares : List (Option Usage)) (e : Entry) → Good s → Holds name shares s → IsAllowed s e.call e.given → e.reply ≡ (step s e.call e.given).1
+    → Tells name s shares e (step s e.call e.given).0
+told name s shares e good held allowed is =
+    let t : State = (step s e.call e.given).0 in
+    let both = step-place name s e.call e.given good allowed in
+    let old : Stands name both.0 s = both.1 in
+    let new : Stands name both.0 t = both.2 in
+    let at : HoldsAt both.0 shares s = record { places = held.places; agrees = λ slot low. held.agrees slot low ∙ old.share slot } in
+    let here = turned_at name both.0 s shares e good old.owned at allowed is in
+    record {
+      holds = record { places = here.holds.places; agrees = λ slot low. here.holds.agrees slot low ∙ sym (new.share slot) };
+      own = sym (own name both.0 s shares good old.owned at e.call e.given allowed);
+      rest = here.rest;
+      before = old.charge ∙ here.before;
+      after = new.charge ∙ here.after;
+    }
+
+-- ---- the entries
 
 -- the charge before the entries, from the one after them
-charge_back : (name : Bytes) (place : ℕ) (s : State) (shares : List (Option Usage)) (es : List Entry) (t : State) → Good s → Holds name place shares s → Replays s es t
-    → charge_before (charge_of place t.records) (changes_of name shares es) ≡ charge_of place s.records
-charge_back name place s shares [] t good held h = ap (λ (u : State). charge_of place u.records) h
-charge_back name place s shares (e ∷ es) t good held h =
-    let here = told name place s shares e good held h.0 h.1 in
-    let later = charge_back name place (step s e.call e.given).0 (shares_after name shares e) es t (good_step s e.call e.given good h.0) here.holds h.2 in
+charge_back : (name : Bytes) (s : State) (shares : List (Option Usage)) (es : List Entry) (t : State) → Good s → Holds name shares s → Replays s es t
+    → charge_before (namespace_charge name t) (changes_of name shares es) ≡ namespace_charge name s
+charge_back name s shares [] t good held h = ap (namespace_charge name) h
+charge_back name s shares (e ∷ es) t good held h =
+    let here = told name s shares e good held h.0 h.1 in
+    let later = charge_back name (step s e.call e.given).0 (shares_after name shares e) es t (good_step s e.call e.given good h.0) here.holds h.2 in
     let c : Change = change_of name shares e in
     ap (λ (u : Usage). turned u c.left c.found) later
-    ∙ turned-is here.rest c.left c.found _ _ here.after here.before (small_charge name place s good held.named)
+    ∙ turned-is here.rest c.left c.found _ _ here.after here.before (small_charge name s good)
 
 -- the entries of the namespace, each with the charge after it
-infos_are : (name : Bytes) (place : ℕ) (s : State) (shares : List (Option Usage)) (es : List Entry) (t : State) → Good s → Holds name place shares s → Replays s es t
-    → entry_infos_of name s.entries shares (charge_of place s.records) es ≡ history place s es
-infos_are name place s shares [] t good held h = refl
-infos_are name place s shares (e ∷ es) t good held h =
+infos_are : (name : Bytes) (s : State) (shares : List (Option Usage)) (es : List Entry) (t : State) → Good s → Holds name shares s → Replays s es t
+    → entry_infos_of name s.entries shares (namespace_charge name s) es ≡ history name s es
+infos_are name s shares [] t good held h = refl
+infos_are name s shares (e ∷ es) t good held h =
     let after : State = (step s e.call e.given).0 in
     let c : Change = change_of name shares e in
-    let here = told name place s shares e good held h.0 h.1 in
+    let here = told name s shares e good held h.0 h.1 in
     let sound = good_step s e.call e.given good h.0 in
-    let charge : turned (charge_of place s.records) c.found c.left ≡ charge_of place after.records =
-    turned-is here.rest c.found c.left _ _ here.before here.after (small_charge name place after sound here.holds.named) in
+    let charge : turned (namespace_charge name s) c.found c.left ≡ namespace_charge name after =
+    turned-is here.rest c.found c.left _ _ here.before here.after (small_charge name after sound) in
     let number : s.entries + 1 ≡ after.entries = sym (step-entries s e.call e.given h.0) in
-    let later : entry_infos_of name after.entries (shares_after name shares e) (charge_of place after.records) es ≡ history place after es = infos_are name place after (shares_after name shares e) es t sound here.holds h.2 in
-    let rest : entry_infos_of name (s.entries + 1) (shares_after name shares e) (turned (charge_of place s.records) c.found c.left) es ≡ history place after es =
+    let later : entry_infos_of name after.entries (shares_after name shares e) (namespace_charge name after) es ≡ history name after es = infos_are name after (shares_after name shares e) es t sound here.holds h.2 in
+    let rest : entry_infos_of name (s.entries + 1) (shares_after name shares e) (turned (namespace_charge name s) c.found c.left) es ≡ history name after es =
     (λ i. entry_infos_of name (number i) (shares_after name shares e) (charge i) es) ∙ later in
-    let mine : is_own name shares e.call ≡ is_call_of place s e.call = sym (own name place s shares good held e.call e.given h.0) in
+    let mine : is_own name shares e.call ≡ is_call_of name s e.call = here.own in
     λ i. if mine i then entry_info (number i) e (Some (charge i)) ∷ rest i else rest i
 
 -- ---- the shares that a round begins with
@@ -141,17 +182,26 @@ shares_below-in place (suc n) slot rs low =
       | inr apart ↦ (let below : slot < n = omega (arith, low, apart) in share_in-append_low slot before (share_for place last) (omega (arith, below, long)) ∙ shares_below-in place n slot rs below)
     ]
 
-opening_holds : (name : Bytes) (place : ℕ) (shares : List (Option Usage)) (s : State) → shares ≡ shares_of s.slots place s.records → place_of name s.namespaces ≡ Some place → Holds name place shares s
-opening_holds name place shares s are named = record {
-  named = named;
-  places = ap (λ (l : List (Option Usage)). length l) are ∙ shares_below-length place s.slots s.records;
-  agrees = λ slot low. ap (share_of_slot slot) are ∙ shares_below-in place s.slots slot s.records low;
-}
+opening_holds : (name : Bytes) (shares : List (Option Usage)) (s : State) → shares ≡ namespace_shares name s → Holds name shares s
+opening_holds name shares s are = by (place_of name s.namespaces) refl
+  where
+    by : (o : Option ℕ) → place_of name s.namespaces ≡ o → Holds name shares s
+    by (Some place) named =
+        let same : shares ≡ shares_of s.slots place s.records = are ∙ rw named refl in
+        record {
+          places = ap (λ (l : List (Option Usage)). length l) same ∙ shares_below-length place s.slots s.records;
+          agrees = λ slot low. ap (share_of_slot slot) same ∙ shares_below-in place s.slots slot s.records low ∙ rw named refl;
+        }
+    by None unnamed =
+        let same : shares ≡ no_shares s.slots = are ∙ rw unnamed refl in
+        record {
+          places = ap (λ (l : List (Option Usage)). length l) same ∙ length-replicate s.slots None;
+          agrees = λ slot low. ap (share_of_slot slot) same ∙ get_or-replicate s.slots slot None None low ∙ rw unnamed refl;
+        }
 
 -- what the entries of a round tell, from the charge after them all
-pub told_history : (name : Bytes) (place : ℕ) (shares : List (Option Usage)) (s : State) (es : List Entry) (t : State) → Good s → shares ≡ shares_of s.slots place s.records → Replays s es t → place_of name t.namespaces ≡ Some place
-    → entry_infos_of name s.entries shares (charge_before (charge_of place t.records) (changes_of name shares es)) es ≡ history place s es
-told_history name place shares s es t good are h named =
-    let held = opening_holds name place shares s are (sym (Replays-names s es t h name) ∙ named) in
-    ap (λ (u : Usage). entry_infos_of name s.entries shares u es) (charge_back name place s shares es t good held h)
-    ∙ infos_are name place s shares es t good held h
+pub told_history : (name : Bytes) (shares : List (Option Usage)) (s : State) (es : List Entry) (t : State) → Good s → shares ≡ namespace_shares name s → Replays s es t
+    → entry_infos_of name s.entries shares (charge_before (namespace_charge name t) (changes_of name shares es)) es ≡ history name s es
+told_history name shares s es t good are h =
+    let held = opening_holds name shares s are in
+    ap (λ (u : Usage). entry_infos_of name s.entries shares u es) (charge_back name s shares es t good held h) ∙ infos_are name s shares es t good held h

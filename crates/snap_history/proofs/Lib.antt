@@ -1,4 +1,6 @@
-mod Names
+pub mod Names
 mod Turning
+mod Placed
+pub mod Since
 pub mod Law
 mod Pages

@@ -1,5 +1,5 @@
--- No call changes the name or the place of a namespace.
-use Rattle.std.proofs.Common.{◌≡◌, ℕ, ◌+◌, ◌<◌, List, [], ◌∷◌, Bool, true, false, Some, None, refl, ap, ◌∙◌, arith}
+-- Calls that make no namespace and take none away change no name and no place of one.
+use Rattle.std.proofs.Common.{◌≡◌, ℕ, ◌+◌, ◌<◌, List, Bool, true, false, Some, None, refl, arith}
 use Rattle.std.proofs.lemmas.Bool.Decides.{nat_tests}
 use Rattle.std.specs.Option.{option_map_or}
 use Rattle.std.specs.Prelude.{◌&&◌, nat_le, nat_lt, if◌then◌else◌, Option, Result, Ok, Err}
@@ -17,7 +17,6 @@ use Rattle.snap_call.specs.declared.call.Call.{Call}
 use Rattle.snap_call.specs.declared.call.Call.TheVariants as calls
 use Rattle.snap_call.specs.declared.call.Given.{Given}
 use Rattle.snap_call.specs.declared.call.Given.TheVariants.{Nothing, Count, Layer}
-use Rattle.snap_call.specs.declared.entry.Entry.{Entry}
 use Rattle.snap_call.specs.declared.refusal.Refusal.{Refusal}
 use Rattle.snap_call.specs.declared.refusal.Refusal.TheVariants.{NoNamespace, NumbersSpent, NotFound}
 use Rattle.snap_call.specs.declared.reply.Reply.{Reply}
@@ -29,7 +28,6 @@ use Rattle.snap_call.specs.State.{place_of}
 use Rattle.snap_call.specs.Step.{are_formed, refused, prepared, prepare, granted, charge, trim, commit_as, commit, discard, ask, step, IsAllowed, place_for, slot_for, unless_refused, mounts, prepare_view, update_record, in_namespace, has_named, sweep_at, at_record}
 use Rattle.snap_call.specs.Steps.{session, remove, update, walk_infos, set_limit, lease_create, lease_add, lease_drop, lease_release}
 use Rattle.snap_call.proofs.Parts.{prepare_at, charge_to, view_at, remove_record, set_limit_at, lease_add_record, lease_drop_at}
-use Rattle.snap_call.specs.Journal.{Replays}
 use Rattle.snap_call.proofs.Leasing.{place_of-limited}
 
 -- the namespaces have the same names at the same places
@@ -155,29 +153,32 @@ opening s left = at (nat_lt s.sessions max_sessions) refl
     at true is = (λ name. refl)
     at false is = absurd (grind (arith, nat_tests))
 
--- each allowed call leaves them so
-pub step-names : (s : State) (call : Call) (given : Given) → IsAllowed s call given → IsNext s (step s call given).0
-step-names s calls.Session given left = opening s left
-step-names s (calls.Prepare namespace key parent labels) given h = preparing s namespace key parent labels
-step-names s (calls.Charge slot id need want) given h = charging s slot need want (active_at slot s.records)
-step-names s (calls.Trim slot id) given h = trimming s slot given (active_at slot s.records)
-step-names s (calls.Commit slot id name lease labels) given h = committing s slot name lease labels given
-step-names s (calls.Discard slot id) given h = discarding s slot (active_at slot s.records)
-step-names s (calls.Stat namespace key) given h = asking s (λ r. Info (info_of r)) namespace key
-step-names s (calls.Usage namespace key) given h = asking s (λ r. UsageReply (usage_of r.content)) namespace key
-step-names s (calls.Mounts namespace key) given h = asking s (mounts s) namespace key
-step-names s (calls.View namespace key parent labels) given h = viewing s namespace key parent labels
-step-names s (calls.Remove namespace key) given h = removing s namespace key
-step-names s (calls.Update namespace key labels paths) given h = updating s namespace key labels paths
-step-names s (calls.Walk namespace after most asked) given h = walking s namespace after most asked
-step-names s (calls.SetLimit namespace limit) given h = limiting s namespace limit
-step-names s (calls.LeaseCreate namespace lease until) given h = creating s namespace lease until
-step-names s (calls.LeaseAdd namespace lease name) given h = adding s namespace lease name
-step-names s (calls.LeaseDrop namespace lease name) given h = dropping s namespace lease name
-step-names s (calls.LeaseRelease namespace lease) given h = releasing s namespace lease
-step-names s (calls.Sweep namespace moment) given h = in_place s namespace (sweep_at s namespace moment) (λ place. (λ name. refl))
+-- a call that makes no namespace and takes none away
+abbrev pub KeepsSpaces : Call → Type 0
+KeepsSpaces (calls.NamespaceCreate namespace limit) = ⊥
+KeepsSpaces (calls.NamespaceRemove namespace) = ⊥
+KeepsSpaces call = Unit {0}
 
--- over a whole journal
-pub Replays-names : (s : State) (j : List Entry) (t : State) → Replays s j t → (name : Bytes) → place_of name t.namespaces ≡ place_of name s.namespaces
-Replays-names s [] t h name = ap (λ (u : State). place_of name u.namespaces) h
-Replays-names s (e ∷ es) t h name = Replays-names (step s e.call e.given).0 es t h.2 name ∙ step-names s e.call e.given h.0 name
+-- each such call that is allowed leaves them so
+pub step-names : (s : State) (call : Call) (given : Given) → KeepsSpaces call → IsAllowed s call given → IsNext s (step s call given).0
+step-names s calls.Session given kept left = opening s left
+step-names s (calls.Prepare namespace key parent labels) given kept h = preparing s namespace key parent labels
+step-names s (calls.Charge slot id need want) given kept h = charging s slot need want (active_at slot s.records)
+step-names s (calls.Trim slot id) given kept h = trimming s slot given (active_at slot s.records)
+step-names s (calls.Commit slot id name lease labels) given kept h = committing s slot name lease labels given
+step-names s (calls.Discard slot id) given kept h = discarding s slot (active_at slot s.records)
+step-names s (calls.Stat namespace key) given kept h = asking s (λ r. Info (info_of r)) namespace key
+step-names s (calls.Usage namespace key) given kept h = asking s (λ r. UsageReply (usage_of r.content)) namespace key
+step-names s (calls.Mounts namespace key) given kept h = asking s (mounts s) namespace key
+step-names s (calls.View namespace key parent labels) given kept h = viewing s namespace key parent labels
+step-names s (calls.Remove namespace key) given kept h = removing s namespace key
+step-names s (calls.Update namespace key labels paths) given kept h = updating s namespace key labels paths
+step-names s (calls.Walk namespace after most asked) given kept h = walking s namespace after most asked
+step-names s (calls.SetLimit namespace limit) given kept h = limiting s namespace limit
+step-names s (calls.NamespaceCreate namespace limit) given kept h = absurd kept
+step-names s (calls.NamespaceRemove namespace) given kept h = absurd kept
+step-names s (calls.LeaseCreate namespace lease until) given kept h = creating s namespace lease until
+step-names s (calls.LeaseAdd namespace lease name) given kept h = adding s namespace lease name
+step-names s (calls.LeaseDrop namespace lease name) given kept h = dropping s namespace lease name
+step-names s (calls.LeaseRelease namespace lease) given kept h = releasing s namespace lease
+step-names s (calls.Sweep namespace moment) given kept h = in_place s namespace (sweep_at s namespace moment) (λ place. (λ name. refl))

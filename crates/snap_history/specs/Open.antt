@@ -1,10 +1,14 @@
 -- What the open snapshots of a state are charged, each in the place of its slot.
 use Rattle.std.specs.Prelude.{ℕ, zero, suc, ◌==◌, if◌then◌else◌, List, [], ◌∷◌, ◌++◌, map, Option, None, Some}
-use Rattle.std.specs.Option.{option_map}
+use Rattle.std.specs.Option.{option_map, option_map_or}
 use Rattle.snap_usage.specs.declared.usage.Usage.{Usage}
+use Rattle.snap_record.specs.Labels.{Bytes}
 use Rattle.snap_record.specs.Records.{usage_of}
 use Rattle.snap_record.specs.declared.record.Record.{Record}
+use Rattle.snap_call.specs.declared.state.State.{State}
 use Rattle.snap_call.specs.Records.{active_at}
+use Rattle.snap_call.specs.State.{place_of}
+use Rattle.snap_history.specs.Changes.{no_shares}
 use Rattle.snap_history.specs.declared.open.OpenShare.{OpenShare}
 
 -- the place of the snapshot's namespace, and what the snapshot is charged
@@ -28,3 +32,7 @@ share_for place (Some s) = if s.namespace == place then Some s.charged else None
 -- what the open snapshots of the namespace at the place are charged, each in the place of its slot
 abbrev pub shares_of : ℕ → ℕ → List Record → List (Option Usage)
 shares_of slots place rs = map (share_for place) (open_shares slots rs)
+
+-- what those of the namespace of this name are charged, each in the place of its slot; nothing in any where the store doesn't have it
+abbrev pub namespace_shares : Bytes → State → List (Option Usage)
+namespace_shares name s = option_map_or (λ place. shares_of s.slots place s.records) (place_of name s.namespaces) (no_shares s.slots)

@@ -1,17 +1,15 @@
-ghost use Rattle.std.specs.Prelude.{◌≡◌, ◌-◌, ◌+◌, ◌≤◌, ◌<◌, ◌^◌, ℕ, Some, IfOk, length};
+ghost use Rattle.std.specs.Prelude.{◌≡◌, ◌-◌, ◌+◌, ◌≤◌, ◌<◌, ◌^◌, IfOk, IfSome, length};
 ghost use Rattle.snap_call.specs.Good.{Good};
 ghost use Rattle.snap_call.specs.Journal.{Replays};
-ghost use Rattle.snap_call.specs.Records.{charge_of};
-ghost use Rattle.snap_call.specs.State.{place_of};
 ghost use Rattle.snap_call.specs.declared.state.State.{State};
 ghost use Rattle.snap_history.specs.Changes.{changes_of, charge_before, entry_infos_of};
-ghost use Rattle.snap_history.specs.History.{entries_from, history, history_page};
-ghost use Rattle.snap_history.specs.Open.{shares_of};
+ghost use Rattle.snap_history.specs.History.{entries_from, history, history_page, history_since, last_made, makes_by, namespace_charge};
+ghost use Rattle.snap_history.specs.Open.{namespace_shares};
 
 use crate::change::{Change, turned};
 use crate::info::{EntryInfo, entry_info};
 use crate::shares::Shares;
-use snap_call::SharedEntry;
+use snap_call::{Call, Entry, Reply, SharedEntry};
 use snap_record::Sequence;
 use snap_usage::Usage;
 use std::alloc::{AllocError, Global};
@@ -81,9 +79,56 @@ fn infos(
     Ok(infos)
 }
 
+// Those of the namespace of this name, from the shares before them.
+fn told(
+    alloc: Global,
+    entries: &[SharedEntry],
+    last: u64,
+    name: &str,
+    held: &Shares,
+    now: Usage,
+    after: u64,
+    most: usize,
+) -> Result<Sequence<EntryInfo>, AllocError>
+    requires { length entries.now ≤ last }
+    ensures { IfOk result (λ infos. (s t : State) → Good s → held.now ≡ namespace_shares name.now s → Replays s entries.now t
+        → t.entries ≡ last → namespace_charge name.now t ≡ now → infos ≡ history_page after most (history name.now s entries.now)) }
+{
+    let before = last - entries.len() as u64;
+    let changes = changes(alloc, entries, name, held)?;
+    let opening = charge_before(now, &changes);
+    infos(alloc, entries, before, name, held, opening, after, most)
+}
+
+// Whether the entry makes the namespace of this name.
+fn makes(name: &str, entry: &Entry) -> bool
+    ensures { result ≡ makes_by name.now entry.now.call entry.now.reply }
+{
+    match (&entry.call, &entry.reply) {
+        (Call::NamespaceCreate { namespace, .. }, Reply::Done) => namespace.as_str() == name,
+        _ => false,
+    }
+}
+
+// The place of the last entry that makes it.
+fn last_made(entries: &[SharedEntry], name: &str) -> Option<usize>
+    ensures found { result ≡ last_made name.now entries.now }
+    ensures inside { IfSome result (λ first. first < length entries.now) }
+{
+    let mut left = entries.len();
+    while left > 0 {
+        left -= 1;
+        if makes(name, entries[left].entry()) {
+            return Some(left);
+        }
+    }
+    None
+}
+
 /// The entries of a round that are a namespace's and have a greater number than `after`, in order, at most
-/// so many, each with what the namespace is charged after it. `last` is the number of the last entry, `now`
-/// what the namespace is charged after it, and `held` what its open snapshots were charged before the entries.
+/// so many, each with what the namespace is charged after it: since the last that made the namespace, where one of
+/// them did. `last` is the number of the last entry, `now` what the namespace is charged after it, and `held` what
+/// its open snapshots were charged before the entries, a place for each slot.
 ///
 /// The cost grows with the entries, and the memory too: a change for each, and what is answered.
 pub fn history(
@@ -97,15 +142,25 @@ pub fn history(
     most: usize,
 ) -> Result<Sequence<EntryInfo>, AllocError>
     requires { length entries.now ≤ last }
-    // The entries lead from the state that the round began at, with these shares, to one with this number and this charge.
-    ensures { IfOk result (λ infos. (s t : State) (place : ℕ) → Good s → held.now ≡ shares_of s.slots place s.records → Replays s entries.now t
-        → place_of name.now t.namespaces ≡ Some place → t.entries ≡ last → charge_of place t.records ≡ now
-        → infos ≡ history_page after most (history place s entries.now)) }
+    // The entries lead from the state that the round began at, with these shares unless one of them made the namespace,
+    // to one with this number and this charge.
+    ensures { IfOk result (λ infos. (s t : State) → Good s → length held.now ≡ s.slots → (last_made name.now entries.now ≡ None → held.now ≡ namespace_shares name.now s) → Replays s entries.now t
+        → t.entries ≡ last → namespace_charge name.now t ≡ now → infos ≡ history_page after most (history_since name.now s entries.now)) }
 {
-    let before = last - entries.len() as u64;
-    let changes = changes(alloc, entries, name, held)?;
-    let opening = charge_before(now, &changes);
-    infos(alloc, entries, before, name, held, opening, after, most)
+    let Some(first) = last_made(entries, name) else {
+        return told(alloc, entries, last, name, held, now, after, most);
+    };
+    let none = Shares::none(alloc, held.slots())?;
+    told(
+        alloc,
+        &entries[first..],
+        last,
+        name,
+        &none,
+        now,
+        after,
+        most,
+    )
 }
 
 // The entries that have a greater number, at most so many; the first entry has the number after `before`.

@@ -1,6 +1,6 @@
 //! What the entries of a round made of a namespace's charge.
 //!
-//! The answer is one definition, `history` in `specs/History.antt`, over the states that the entries lead
+//! The answer is one definition, `history_since` in `specs/History.antt`, over the states that the entries lead
 //! to. It is found without these states: an entry's call and reply tell what it changed.
 #![tactic(auto)]
 

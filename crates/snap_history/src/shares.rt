@@ -1,5 +1,5 @@
 // What the open snapshots of a namespace are charged, entry by entry.
-ghost use Rattle.std.specs.Prelude.{◌≡◌, IfOk};
+ghost use Rattle.std.specs.Prelude.{◌≡◌, IfOk, length};
 ghost use Rattle.snap_history.specs.Changes.{change_of, is_own, named_shares, no_shares, recharged_to, share_of_slot, shares_after, slot_shares, with_share};
 
 use crate::change::{Change, ONE, named_change, slot_change};
@@ -46,6 +46,13 @@ impl Shares {
         let mut list = Vec::new(alloc);
         list.extend_from_slice(&self.list)?;
         Ok(Shares { list })
+    }
+
+    // How many places there are.
+    pub(crate) fn slots(&self) -> u64
+        ensures { result ≡ length self.now }
+    {
+        self.list.len() as u64
     }
 
     // What the namespace's open snapshot in the slot is charged.

@@ -23,6 +23,8 @@ pub fn namespace_in(call: &Call) -> Option<&Text>
         Call::Remove { namespace, .. } => Some(namespace),
         Call::Update { namespace, .. } => Some(namespace),
         Call::Walk { namespace, .. } => Some(namespace),
+        Call::NamespaceCreate { namespace, .. } => Some(namespace),
+        Call::NamespaceRemove { namespace } => Some(namespace),
         Call::SetLimit { namespace, .. } => Some(namespace),
         Call::LeaseCreate { namespace, .. } => Some(namespace),
         Call::LeaseAdd { namespace, .. } => Some(namespace),

@@ -1,5 +1,5 @@
 -- Leases by their numbers, and the index of these numbers, before and after a change.
-use Rattle.std.proofs.Common.{◌≡◌, ℕ, suc, ◌-◌, ◌<◌, Bool, true, false, not, cond, count_by, List, [], ◌∷◌, ◌++◌, ◌≢◌, ◌&&◌, ◌||◌, filter, find, length, get_or, set, Option, None, Some, is_some, Result, Ok, Err, String, BTreeMap, string_bytes, refl, sym, ap, ◌∙◌, subst, arith, bytes_eq}
+use Rattle.std.proofs.Common.{◌≡◌, ◌↔◌, ℕ, suc, ◌-◌, ◌<◌, Bool, true, false, true≢false, not, cond, count_by, List, [], ◌∷◌, ◌++◌, ◌≢◌, ◌&&◌, ◌||◌, filter, find, length, get_or, set, Option, None, Some, is_some, IfSome, Result, Ok, Err, String, BTreeMap, string_bytes, refl, sym, ap, ◌∙◌, subst, arith, bytes_eq}
 use Rattle.std.proofs.lemmas.Cmp.{by_ranked, nat_cmp_total, ranked, tied_itself}
 use Rattle.std.proofs.lemmas.List.{map-append}
 use Rattle.std.proofs.lemmas.List.Sums.{sum_by-cons}
@@ -18,8 +18,8 @@ use Rattle.snap_counts.proofs.Lists.{one_if}
 use Rattle.snap_counts.proofs.Reading.{Sets, lookup-by_bytes, read-Sets}
 use Rattle.snap_counts.specs.Counts.{by_bytes, count_within}
 use Rattle.snap_lease.specs.Index.{IsUncounted, NameCounts}
-use Rattle.snap_lease.specs.Lease.{Lease, empty_lease, is_lease, with_lease_name}
-use Rattle.snap_lease.specs.Leases.{AreDistinct, guards, has_lease, with_name_added, without_lease}
+use Rattle.snap_lease.specs.Lease.{Lease, empty_lease, is_lease, is_of, with_lease_name}
+use Rattle.snap_lease.specs.Leases.{AreDistinct, guards, has_lease, has_leases, with_name_added, without_lease}
 use Rattle.snap_lease.specs.Numbers.{AreNumbers, AreUnnumbered, LeaseIndex, index_of, number_in, lease_number}
 use Rattle.snap_lease.proofs.LeaseLemmas.{list_any-map}
 use Rattle.snap_lease.proofs.ListLemmas.{bytes_eq_comm, filter-none, has_lease-after, is_lease-parts, is_lease_comm, list_any-tail, set-with_name_added, with_name-name, with_name-namespace}
@@ -345,6 +345,31 @@ module _ {Z : Type 0} where
       by [] e = refl
       by (x ∷ es) e = absurd (omega arith)
 
+  -- where no name is found there is none
+  pub no_name : (m : BTreeMap (String Z) ℕ) → ((q : List ℕ) → get_by_text m q ≡ None) → btree_map_len m ≡ 0
+  no_name m none = by m.entries (λ q. lookup-by_bytes q m.entries ∙ none q)
+    where
+      by : (es : List (String Z × ℕ)) → ((q : List ℕ) → lookup (bytes_eq q) (by_bytes es) ≡ None) → length es ≡ 0
+      by [] read = refl
+      by (e ∷ es) read =
+          let text = string_bytes e.0 in
+          let found : lookup (bytes_eq text) (by_bytes (e ∷ es)) ≡ Some e.1 = ap (λ b. cond b (Some e.1) (lookup (bytes_eq text) (by_bytes es))) ((bytes_eq-Decides text text).1 refl) in
+          let absent : lookup (bytes_eq text) (by_bytes (e ∷ es)) ≡ None = read text in
+          absurd (cc)
+
+  -- a namespace is found exactly where one of its names has a number
+  pub found-numbered : (m : IndexMap Z) (seen : LeaseIndex) (space : List ℕ) (found : Bool) → found ≡ is_some (get_by_text m space) → index_of m.entries ≡ seen → ((q : List ℕ) → IfSome (get_by_text m q) (λ names. btree_map_len names ≢ 0))
+      → (found ≡ false) ↔ ((q : List ℕ) → number_in space q seen ≡ None)
+  found-numbered m seen space found is view all = by (get_by_text m space) refl (all space)
+    where
+      by : (o : Option (BTreeMap (String Z) ℕ)) → get_by_text m space ≡ o → IfSome o (λ names. btree_map_len names ≢ 0) → (found ≡ false) ↔ ((q : List ℕ) → number_in space q seen ≡ None)
+      by None at some =
+          (λ none q. sym (ap (number_in space q) view) ∙ number_in-index_of space q m ∙ ap (number_among q) at, λ none. is ∙ ap is_some at)
+      by (Some names) at some = (
+        λ none. absurd (true≢false (sym (is ∙ ap is_some at) ∙ none)),
+        λ none. absurd (some (no_name names (λ q. sym (ap (number_among q) at) ∙ sym (number_in-index_of space q m) ∙ ap (number_in space q) view ∙ none q))),
+      )
+
   -- a map of names isn't empty once one of them got a number
   pub named-put : (old new : BTreeMap (String Z) ℕ) (lease : List ℕ) (n : ℕ) → Sets old new lease (Some n) → btree_map_len new ≢ 0
   named-put old new lease n sets empty =
@@ -471,3 +496,39 @@ unnumbered-kept test x left rest number space name total is stays so_far =
 pub no_entries : {X : Type 0} (es : List X) → length es ≡ 0 → es ≡ []
 no_entries [] empty = refl
 no_entries (e ∷ es) empty = absurd (omega arith)
+
+-- ---- whether a namespace has leases
+
+module _ (namespace : List ℕ) where
+  -- it has none where none of its leases has a number
+  pub leases-unnumbered : (es : List (ℕ × Lease)) → ((q : List ℕ) → lease_number namespace q es ≡ None) → has_leases (values_of es) namespace ≡ false
+  leases-unnumbered [] none = refl
+  leases-unnumbered (e ∷ es) none = by (is_of namespace e.1) refl (leases-unnumbered es)
+    where
+      rest : (b : Bool) → is_of namespace e.1 ≡ b → b ≡ false → (q : List ℕ) → lease_number namespace q es ≡ None
+      rest b is out q = sym (ap (λ c. cond (c && bytes_eq q e.1.name) (Some e.0) (lease_number namespace q es)) (is ∙ out)) ∙ none q
+
+      by : (b : Bool) → is_of namespace e.1 ≡ b → (((q : List ℕ) → lease_number namespace q es ≡ None) → has_leases (values_of es) namespace ≡ false) → (b || has_leases (values_of es) namespace) ≡ false
+      by false out later = later (rest false out refl)
+      by true own later =
+          let q = e.1.name in
+          let numbered : lease_number namespace q (e ∷ es) ≡ Some e.0 =
+          ap (λ c. cond (c && bytes_eq q q) (Some e.0) (lease_number namespace q es)) own ∙ ap (λ c. cond c (Some e.0) (lease_number namespace q es)) ((bytes_eq-Decides q q).1 refl) in
+          let absent : lease_number namespace q (e ∷ es) ≡ None = none q in
+          absurd (cc)
+
+  -- and then none has a number
+  pub unnumbered-leases : (es : List (ℕ × Lease)) → has_leases (values_of es) namespace ≡ false → (q : List ℕ) → lease_number namespace q es ≡ None
+  unnumbered-leases [] none q = refl
+  unnumbered-leases (e ∷ es) none q =
+      let both = list_any-tail (is_of namespace) e.1 (values_of es) none in
+      ap (λ c. cond (c && bytes_eq q e.1.name) (Some e.0) (lease_number namespace q es)) both.0 ∙ unnumbered-leases es both.1 q
+
+  pub has_leases_at_number : (es : List (ℕ × Lease)) (ls : List Lease) (index : LeaseIndex) (found : Bool) → (found ≡ false) ↔ ((q : List ℕ) → number_in namespace q index ≡ None) → AreNumbers es index → values_of es ≡ ls → found ≡ has_leases ls namespace
+  has_leases_at_number es ls index found at are view = by found at (has_leases (values_of es) namespace) refl ∙ ap (λ ks. has_leases ks namespace) view
+    where
+      by : (a : Bool) → (a ≡ false) ↔ ((q : List ℕ) → number_in namespace q index ≡ None) → (b : Bool) → has_leases (values_of es) namespace ≡ b → a ≡ b
+      by true at true is = refl
+      by false at false is = refl
+      by false at true is = sym (leases-unnumbered es (λ q. sym (are namespace q) ∙ at.0 refl q)) ∙ is
+      by true at false is = at.1 (λ q. are namespace q ∙ unnumbered-leases es is q)

@@ -8,6 +8,10 @@ use Rattle.snap_lease.specs.Lease.{Lease, is_of, is_lease, does_name, is_live, w
 abbrev pub has_lease : List Lease → List ℕ → List ℕ → Bool
 has_lease ls namespace lease = list_any (is_lease namespace lease) ls
 
+-- whether the namespace has a lease
+abbrev pub has_leases : List Lease → List ℕ → Bool
+has_leases ls namespace = list_any (is_of namespace) ls
+
 -- no two leases of one namespace have the same name
 abbrev pub AreDistinct : List Lease → Type 0
 AreDistinct [] = Unit {0}

@@ -4,7 +4,7 @@ ghost use Rattle.std.specs.List.{AllByRecursion};
 ghost use Rattle.std.specs.Map.{keys_of, values_of};
 ghost use Rattle.snap_path.specs.Memory.{no_memory};
 ghost use Rattle.snap_lease.specs.Lease.{empty_lease, NamesOnce};
-ghost use Rattle.snap_lease.specs.Leases.{AreDistinct, has_lease, names_in_lease, lease_names, naming_count, is_guarded, is_guarded_at, has_ended, with_name_added, with_name_dropped, without_lease, without_ended, CountsAdded, CountsDropped, CountsReleased, CountsLive};
+ghost use Rattle.snap_lease.specs.Leases.{AreDistinct, has_lease, has_leases, names_in_lease, lease_names, naming_count, is_guarded, is_guarded_at, has_ended, with_name_added, with_name_dropped, without_lease, without_ended, CountsAdded, CountsDropped, CountsReleased, CountsLive};
 ghost use Rattle.snap_lease.specs.Index.{AreUncounted};
 ghost use Rattle.snap_lease.specs.Live.{is_among};
 ghost use Rattle.snap_lease.specs.Numbers.{AreUnnumbered, next_number};
@@ -72,6 +72,15 @@ impl Leases {
         ensures { result ≡ has_lease self.now namespace.now lease.now }
     {
         self.numbers.get(namespace, lease).is_some()
+    }
+
+    /// Whether the namespace has a lease, live or ended.
+    ///
+    /// Takes no memory. Its cost grows with the logarithm of the number of namespaces that have leases.
+    pub fn has_any(&self, namespace: &str) -> bool
+        ensures { result ≡ has_leases self.now namespace.now }
+    {
+        self.numbers.has_any(namespace)
     }
 
     /// Makes a lease that names nothing, with a last moment or none, as containerd's `leases.Manager.Create` does.

@@ -1,5 +1,5 @@
 //! The numbers of leases, by namespace and name.
-ghost use Rattle.std.specs.Prelude.{◌≡◌, ℕ, List, None, Some, OnOk, OnErr, bytes_eq, ◌&&◌, if◌then◌else◌};
+ghost use Rattle.std.specs.Prelude.{◌≡◌, ◌↔◌, ℕ, List, false, None, Some, OnOk, OnErr, bytes_eq, ◌&&◌, if◌then◌else◌};
 ghost use Rattle.snap_lease.specs.Numbers.{number_in};
 
 use std::alloc::{AllocError, Global};
@@ -43,6 +43,13 @@ impl LeaseNumbers {
             Some(leases) => leases.get(lease).copied(),
             None => None,
         }
+    }
+
+    /// Whether a lease of the namespace has a number.
+    pub(crate) fn has_any(&self, namespace: &str) -> bool
+        ensures { (result ≡ false) ↔ ((q : List ℕ) → number_in namespace.now q self.now ≡ None) }
+    {
+        self.map.get(namespace).is_some()
     }
 
     /// Gives the lease the number. Takes memory for copies of the texts; where it is refused, every number is as it was.

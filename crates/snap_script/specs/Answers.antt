@@ -42,6 +42,9 @@ use Rattle.snap_script.specs.declared.unknown.FieldRule.TheVariants as rules
 abbrev pub refusal_name : Refusal → List ℕ
 refusal_name refusals.BadArgument = codes "BadArgument"
 refusal_name refusals.NoNamespace = codes "NoNamespace"
+refusal_name refusals.NamespaceExists = codes "NamespaceExists"
+refusal_name refusals.TooManyNamespaces = codes "TooManyNamespaces"
+refusal_name refusals.NotEmpty = codes "NotEmpty"
 refusal_name refusals.NotFound = codes "NotFound"
 refusal_name refusals.AlreadyExists = codes "AlreadyExists"
 refusal_name refusals.NotCommitted = codes "NotCommitted"

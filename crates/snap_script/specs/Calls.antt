@@ -42,6 +42,8 @@ parts held (calls.Walk namespace after most asked) =
     (member (codes "labels") (object (wanted_members asked.labels)) (member (codes "max") (number_data most)
     (maybe (codes "name") (option_map string asked.name) (maybe (codes "parent") (option_map string asked.parent) no_members)))))
 parts held (calls.SetLimit namespace limit) = member (codes "blocks") (number_data limit.blocks) (only (codes "inodes") (number_data limit.inodes))
+parts held (calls.NamespaceCreate namespace limit) = member (codes "blocks") (number_data limit.blocks) (only (codes "inodes") (number_data limit.inodes))
+parts held (calls.NamespaceRemove namespace) = no_members
 parts held (calls.LeaseCreate namespace lease until) = member (codes "lease") (string lease) (maybe (codes "until") (option_map number_data until) no_members)
 parts held (calls.LeaseAdd namespace lease name) = member (codes "lease") (string lease) (only (codes "name") (string name))
 parts held (calls.LeaseDrop namespace lease name) = member (codes "lease") (string lease) (only (codes "name") (string name))

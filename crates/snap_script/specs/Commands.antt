@@ -79,6 +79,8 @@ call_of kinds.Usage line = do s ← named line; chain ← optional as_bool field
 call_of kinds.Mounts line = do s ← named line; asked_by line (questions.Mounts s.0 s.1)
 call_of kinds.Walk line = do namespace ← text fields.Namespace line; after ← optional as_str fields.After (Ok []) line; most ← optional as_natural fields.Most (Ok 64) line; asked ← filter_of line; asked_by line (questions.Walk namespace after most asked)
 call_of kinds.Limit line = do Ok (commands.Call (calls.SetLimit (← text fields.Namespace line) (record { blocks = (← required as_natural fields.Blocks line); inodes = (← required as_natural fields.Inodes line) })))
+call_of kinds.NamespaceCreate line = do Ok (commands.Call (calls.NamespaceCreate (← text fields.Namespace line) (record { blocks = (← required as_natural fields.Blocks line); inodes = (← required as_natural fields.Inodes line) })))
+call_of kinds.NamespaceRemove line = do Ok (commands.Call (calls.NamespaceRemove (← text fields.Namespace line)))
 call_of kinds.LeaseCreate line = do Ok (commands.Call (calls.LeaseCreate (← text fields.Namespace line) (← text fields.Lease line) (← given as_natural fields.Until line)))
 call_of kinds.LeaseAdd line = do Ok (commands.Call (calls.LeaseAdd (← text fields.Namespace line) (← text fields.Lease line) (← text fields.Name line)))
 call_of kinds.LeaseDrop line = do Ok (commands.Call (calls.LeaseDrop (← text fields.Namespace line) (← text fields.Lease line) (← text fields.Name line)))

@@ -19,8 +19,8 @@ abbrev pub calls : List CallKind
 calls =
     kinds.Session ∷ kinds.Prepare ∷ kinds.View ∷ kinds.Charge ∷ kinds.Trim ∷ kinds.Commit
     ∷ kinds.Discard ∷ kinds.Remove ∷ kinds.Stat ∷ kinds.Update ∷ kinds.Usage ∷ kinds.Mounts
-    ∷ kinds.Walk ∷ kinds.Limit ∷ kinds.LeaseCreate ∷ kinds.LeaseAdd ∷ kinds.LeaseDrop ∷ kinds.LeaseRelease
-    ∷ kinds.Sweep
+    ∷ kinds.Walk ∷ kinds.Limit ∷ kinds.NamespaceCreate ∷ kinds.NamespaceRemove
+    ∷ kinds.LeaseCreate ∷ kinds.LeaseAdd ∷ kinds.LeaseDrop ∷ kinds.LeaseRelease ∷ kinds.Sweep
     ∷ []
 
 -- the call that has the word, as a journal tells it

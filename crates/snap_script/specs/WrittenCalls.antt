@@ -3,6 +3,7 @@ use Rattle.std.specs.Prelude.{ℕ, List, map, Option, codes}
 use Rattle.std.specs.Option.{option_map}
 use Rattle.serde_json.specs.Data.{Data, string, array, object, Members, no_members, member}
 use Rattle.serde_json.specs.View.{items_of}
+use Rattle.snap_usage.specs.declared.usage.Usage.{Usage}
 use Rattle.snap_record.specs.Kinds.{kind_word}
 use Rattle.snap_record.specs.Labels.{Bytes, Label}
 use Rattle.snap_call.specs.declared.call.Call.{Call}
@@ -37,6 +38,12 @@ new_line call namespace session key parent labels = object
     (member (codes "labels") (object (members_with_entries string labels no_members))
     (member (codes "ns") (string namespace)
     (member (codes "parent") (string parent) (only (codes "s") (number_data session)))))))
+
+-- a namespace and its limit
+abbrev pub limited_line : CallKind → Bytes → ℕ → Usage → Data
+limited_line call namespace session limit = object
+    (member (codes "blocks") (number_data limit.blocks)
+    (member (codes "do") (word_data call) (member (codes "inodes") (number_data limit.inodes) (ends namespace session))))
 
 -- the line of a call, in the order in which its members are written
 abbrev pub ordered_data : Bytes → ℕ → Option Bytes → Call → Data
@@ -75,9 +82,9 @@ ordered_data own session held (calls.Walk namespace after most asked) = object
     (maybe (codes "name") (option_map string asked.name)
     (member (codes "ns") (string namespace)
     (maybe (codes "parent") (option_map string asked.parent) (only (codes "s") (number_data session))))))))))
-ordered_data own session held (calls.SetLimit namespace limit) = object
-    (member (codes "blocks") (number_data limit.blocks)
-    (member (codes "do") (word_data kinds.Limit) (member (codes "inodes") (number_data limit.inodes) (ends namespace session))))
+ordered_data own session held (calls.SetLimit namespace limit) = limited_line kinds.Limit namespace session limit
+ordered_data own session held (calls.NamespaceCreate namespace limit) = limited_line kinds.NamespaceCreate namespace session limit
+ordered_data own session held (calls.NamespaceRemove namespace) = object (member (codes "do") (word_data kinds.NamespaceRemove) (ends namespace session))
 ordered_data own session held (calls.LeaseCreate namespace lease until) = object
     (member (codes "do") (word_data kinds.LeaseCreate)
     (member (codes "lease") (string lease)

@@ -5,7 +5,7 @@ ghost use Rattle.snap_call.specs.declared.call.Call.TheVariants as calls;
 ghost use Rattle.snap_json.specs.Tokens.{with_members, with_value};
 ghost use Rattle.snap_record.specs.Kinds.{kind_word};
 ghost use Rattle.snap_script.specs.Calls.{call_line, wanted_data, wanted_members};
-ghost use Rattle.snap_script.specs.WrittenCalls.{ends, held_line, named_line, new_line, ordered_data};
+ghost use Rattle.snap_script.specs.WrittenCalls.{ends, held_line, limited_line, named_line, new_line, ordered_data};
 
 use crate::to_json::{ToJson, maybe, member};
 use snap_call::Call;
@@ -214,19 +214,34 @@ fn walk(
     out.token(Token::EndObject)
 }
 
-fn set_limit(
+// A call that gives a namespace its limit.
+fn limited(
     alloc: Global,
     out: &mut Writer,
+    call: CallKind,
     namespace: &Text,
     session: u64,
     limit: Usage,
 ) -> Result<(), AllocError>
-    ensures { OnOk result (out.new ≡ with_value (ordered_data [] session None (calls.SetLimit namespace.now limit)) out.old) }
+    ensures { OnOk result (out.new ≡ with_value (limited_line call namespace.now session limit) out.old) }
 {
     out.token(Token::BeginObject)?;
     member(alloc, out, "blocks", &limit.blocks)?;
-    member(alloc, out, "do", &CallKind::Limit.as_str())?;
+    member(alloc, out, "do", &call.as_str())?;
     member(alloc, out, "inodes", &limit.inodes)?;
+    end(alloc, out, namespace, session)
+}
+
+fn namespace_remove(
+    alloc: Global,
+    out: &mut Writer,
+    namespace: &Text,
+    session: u64,
+) -> Result<(), AllocError>
+    ensures { OnOk result (out.new ≡ with_value (ordered_data [] session None (calls.NamespaceRemove namespace.now)) out.old) }
+{
+    out.token(Token::BeginObject)?;
+    member(alloc, out, "do", &CallKind::NamespaceRemove.as_str())?;
     end(alloc, out, namespace, session)
 }
 
@@ -382,7 +397,13 @@ fn write_call(
             most,
             asked,
         } => walk(alloc, out, namespace, n, after, *most, asked),
-        Call::SetLimit { namespace, limit } => set_limit(alloc, out, namespace, n, *limit),
+        Call::SetLimit { namespace, limit } => {
+            limited(alloc, out, CallKind::Limit, namespace, n, *limit)
+        }
+        Call::NamespaceCreate { namespace, limit } => {
+            limited(alloc, out, CallKind::NamespaceCreate, namespace, n, *limit)
+        }
+        Call::NamespaceRemove { namespace } => namespace_remove(alloc, out, namespace, n),
         Call::LeaseCreate {
             namespace,
             lease,

@@ -26,8 +26,8 @@ pub enum Command {
         journal: u64,
     },
     /// A call that the line has all of: `Prepare`, `View`, `Remove`, `Stat`, `Update`, `Usage`, `Mounts`
-    /// or `Walk`, as containerd's `Snapshotter` has them, `SetLimit`, `Sweep`, or one on a lease, as its
-    /// `leases.Manager` has them.
+    /// or `Walk`, as containerd's `Snapshotter` has them, `SetLimit`, `NamespaceCreate`, `NamespaceRemove`,
+    /// `Sweep`, or one on a lease, as its `leases.Manager` has them.
     Call(Call),
     /// `Stat`, `Usage`, `Mounts` or `Walk`, asked without an entry.
     Ask(Question),

@@ -196,6 +196,27 @@ fn set_limit(alloc: Global, line: &Value<'_>) -> Result<Command, ReadError>
 }
 
 #[tactic(auto, unfolding(crate::specs::Commands::call_of))]
+fn namespace_create(alloc: Global, line: &Value<'_>) -> Result<Command, ReadError>
+    ensures { Gives (λ c. c) result (call_of kinds.NamespaceCreate (view line.now)) }
+{
+    Ok(Command::Call(Call::NamespaceCreate {
+        namespace: text(alloc, Field::Namespace, line)?,
+        limit: Usage {
+            blocks: required_number(Field::Blocks, line)?,
+            inodes: required_number(Field::Inodes, line)?,
+        },
+    }))
+}
+
+#[tactic(auto, unfolding(crate::specs::Commands::call_of))]
+fn namespace_remove(alloc: Global, line: &Value<'_>) -> Result<Command, ReadError>
+    ensures { Gives (λ c. c) result (call_of kinds.NamespaceRemove (view line.now)) }
+{
+    let namespace = text(alloc, Field::Namespace, line)?;
+    Ok(Command::Call(Call::NamespaceRemove { namespace }))
+}
+
+#[tactic(auto, unfolding(crate::specs::Commands::call_of))]
 fn lease_create(alloc: Global, line: &Value<'_>) -> Result<Command, ReadError>
     ensures { Gives (λ c. c) result (call_of kinds.LeaseCreate (view line.now)) }
 {
@@ -312,6 +333,8 @@ fn call_of(alloc: Global, kind: CallKind, line: &Value<'_>) -> Result<Command, R
         CallKind::Mounts => mounts(alloc, line),
         CallKind::Walk => walk(alloc, line),
         CallKind::Limit => set_limit(alloc, line),
+        CallKind::NamespaceCreate => namespace_create(alloc, line),
+        CallKind::NamespaceRemove => namespace_remove(alloc, line),
         CallKind::LeaseCreate => lease_create(alloc, line),
         CallKind::LeaseAdd => lease_add(alloc, line),
         CallKind::LeaseDrop => lease_drop(alloc, line),

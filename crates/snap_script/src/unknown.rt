@@ -71,7 +71,10 @@ fn call_fields(kind: CallKind) -> &'static [Field]
             Field::Labels,
             Field::Quiet,
         ],
-        CallKind::Limit => &[Field::Namespace, Field::Blocks, Field::Inodes],
+        CallKind::Limit | CallKind::NamespaceCreate => {
+            &[Field::Namespace, Field::Blocks, Field::Inodes]
+        }
+        CallKind::NamespaceRemove => &[Field::Namespace],
         CallKind::LeaseCreate => &[Field::Namespace, Field::Lease, Field::Until],
         CallKind::LeaseAdd | CallKind::LeaseDrop => &[Field::Namespace, Field::Lease, Field::Name],
         CallKind::LeaseRelease => &[Field::Namespace, Field::Lease],

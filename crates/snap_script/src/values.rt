@@ -113,6 +113,9 @@ pub(crate) fn refusal_name(refusal: Refusal) -> &'static str
     match refusal {
         Refusal::BadArgument => "BadArgument",
         Refusal::NoNamespace => "NoNamespace",
+        Refusal::NamespaceExists => "NamespaceExists",
+        Refusal::TooManyNamespaces => "TooManyNamespaces",
+        Refusal::NotEmpty => "NotEmpty",
         Refusal::NotFound => "NotFound",
         Refusal::AlreadyExists => "AlreadyExists",
         Refusal::NotCommitted => "NotCommitted",

@@ -60,7 +60,7 @@ pub(crate) enum LookupVerb {
 }
 
 /// The commands by their words: those of the calls, as a journal has them, then the others.
-const WORDS: [(&str, Verb); 47] = [
+const WORDS: [(&str, Verb); 49] = [
     ("session", Verb::Call(CallKind::Session)),
     ("prepare", Verb::Call(CallKind::Prepare)),
     ("view", Verb::Call(CallKind::View)),
@@ -75,6 +75,8 @@ const WORDS: [(&str, Verb); 47] = [
     ("mounts", Verb::Call(CallKind::Mounts)),
     ("walk", Verb::Call(CallKind::Walk)),
     ("limit", Verb::Call(CallKind::Limit)),
+    ("namespace_create", Verb::Call(CallKind::NamespaceCreate)),
+    ("namespace_remove", Verb::Call(CallKind::NamespaceRemove)),
     ("lease_create", Verb::Call(CallKind::LeaseCreate)),
     ("lease_add", Verb::Call(CallKind::LeaseAdd)),
     ("lease_drop", Verb::Call(CallKind::LeaseDrop)),

@@ -1,13 +1,11 @@
 -- A command that doesn't change a store leaves it.
-use Rattle.std.proofs.Common.{◌≡◌, ℕ, Bool, true, false, Option, None, Some, List, Result, Ok, Err, refl, sym, ap, ◌∙◌, arith}
+use Rattle.std.proofs.Common.{◌≡◌, ℕ, Bool, true, false, Option, None, Some, Result, Ok, Err, refl, sym, ap, ◌∙◌, arith}
 use Rattle.std.proofs.lemmas.Bool.Decides.{nat_tests}
-use Rattle.std.specs.Prelude.{◌&&◌, IfOk, is_none, nat_le, nat_lt, map, if◌then◌else◌}
+use Rattle.std.specs.Prelude.{◌&&◌, IfOk, is_none, nat_le, nat_lt, if◌then◌else◌}
 use Rattle.std.specs.Option.{option_map_or}
 use Rattle.snap_path.specs.declared.memory.NoMemory.{NoMemory}
-use Rattle.snap_record.specs.Labels.{Bytes}
 use Rattle.snap_call.specs.declared.config.Config.{Config}
 use Rattle.snap_call.specs.declared.config.ConfigField.{ConfigField}
-use Rattle.snap_call.specs.declared.config.Namespace.{Namespace}
 use Rattle.snap_call.specs.declared.reply.Reply.TheVariants as replies
 use Rattle.snap_call.specs.Forms.{bad_field}
 use Rattle.snap_world.specs.World.{WorldValue}
@@ -22,20 +20,20 @@ use Rattle.snap_session.specs.Opened.{OpenedValue, new_world}
 use Rattle.snap_session.specs.Commands.{answer_of_step, command_done, is_started, started, store_begun, store_opened}
 
 -- the store of a first session that isn't opened
-unstarted : (names : List Bytes) (x : WorldValue × StepAnswer) → is_started x.1 ≡ false → (started names x).0 ≡ None
-unstarted names x h =
-    ap (λ (t : Bool). let z : Option OpenedValue × Answer = if t then (Some (record { world = x.0; names = names }), answers.Reply replies.Done) else (None, answer_of_step 0 0 x.0 x.1) in z.0) h
+unstarted : (x : WorldValue × StepAnswer) → is_started x.1 ≡ false → (started x).0 ≡ None
+unstarted x h =
+    ap (λ (t : Bool). let z : Option OpenedValue × Answer = if t then (Some (record { world = x.0 }), answers.Reply replies.Done) else (None, answer_of_step 0 0 x.0 x.1) in z.0) h
 
-refused : (b : Bool) (names : List Bytes) (x y : WorldValue × StepAnswer) → b ≡ true → is_started x.1 ≡ false → (started names (if b then x else y)).0 ≡ None
-refused true names x y h k = unstarted names x k
-refused false names x y h k = absurd (cc h)
+refused : (b : Bool) (x y : WorldValue × StepAnswer) → b ≡ true → is_started x.1 ≡ false → (started (if b then x else y)).0 ≡ None
+refused true x y h k = unstarted x k
+refused false x y h k = absurd (cc h)
 
 no_room : (n : ℕ) → nat_le 1 n ≡ false → nat_lt n 1 ≡ true
 no_room n h = grind (arith, nat_tests)
 
 -- a journal without room for an entry
 none_begun : (c : Config) → nat_le 1 c.journal ≡ false → (store_begun c).0 ≡ None
-none_begun c h = refused (is_full (new_world c) 1) (map (λ (n : Namespace). n.name) c.namespaces) _ _ (no_room c.journal h) refl
+none_begun c h = refused (is_full (new_world c) 1) _ _ (no_room c.journal h) refl
 
 malformed_or_full : (found : Option ConfigField) (c : Config) → (is_none found && nat_le 1 c.journal) ≡ false → (option_map_or (λ field. (None, answers.BadConfig field)) found (store_begun c)).0 ≡ None
 malformed_or_full (Some field) c h = refl

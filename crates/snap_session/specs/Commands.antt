@@ -1,5 +1,5 @@
 -- What a command of a script answers, and the store after it; cited by the public clauses of `act` and, through Script.antt, of `replay`.
-use Rattle.std.specs.Prelude.{ℕ, ◌+◌, nat_lt, Bool, true, false, List, [], ◌∷◌, length, map, take, drop, Option, None, Some, Result, Ok, Err, if◌then◌else◌}
+use Rattle.std.specs.Prelude.{ℕ, ◌+◌, nat_lt, Bool, true, false, List, [], ◌∷◌, length, take, drop, Option, None, Some, Result, Ok, Err, if◌then◌else◌}
 use Rattle.std.specs.Option.{option_map, option_map_or}
 use Rattle.snap_path.specs.Text.{Names}
 use Rattle.snap_layer.specs.declared.content.Content.{Content}
@@ -203,7 +203,7 @@ roll w journal = world_unless_refused w (λ done. round_opened (move (reopened w
 
 -- entries of the round, open snapshots, records, totals
 abbrev pub report : OpenedValue → Answer
-report s = answers.Report (length s.world.journal) (open_count s.world.state.records) (length s.world.state.records) (totals_of s.world s.names)
+report s = answers.Report (length s.world.journal) (open_count s.world.state.records) (length s.world.state.records) (totals_of s.world)
 
 -- a command by a session. A store that stands isn't opened again: no line of a script asks for that
 abbrev pub on_store : OpenedValue → ℕ → Command → WorldValue × Answer
@@ -222,22 +222,22 @@ on_store s n (commands.Batch namespace key need ops) = on_key s.world namespace 
 on_store s n (commands.Lookup namespace key asked path peek) = (s.world, lookup asked path (layers_at s.world namespace key peek))
 on_store s n (commands.TrySweep namespace moment) = (s.world, answers.Reply (sweep s.world.state namespace moment).1)
 on_store s n (commands.ChainUsage namespace key) = (s.world, found_or_else (λ usage. answers.Reply (replies.Usage usage)) refusal_answer (chain_usage s.world.state namespace key))
-on_store s n (commands.Quota namespace) = (s.world, quota_answer s namespace)
-on_store s n (commands.Leases namespace lease) = (s.world, leases s namespace lease)
-on_store s n (commands.Tree namespace) = (s.world, tree s namespace)
+on_store s n (commands.Quota namespace) = (s.world, quota_answer s.world namespace)
+on_store s n (commands.Leases namespace lease) = (s.world, leases s.world.state namespace lease)
+on_store s n (commands.Tree namespace) = (s.world, tree s.world.state namespace)
 on_store s n (commands.Diff namespace key after most) = (s.world, diff s.world namespace key after most)
-on_store s n (commands.Journal namespace after most full) = (s.world, journal_of s.world (carried_of s.names s.world.opening.records) namespace after most full)
+on_store s n (commands.Journal namespace after most full) = (s.world, journal_of s.world (carried_of s.world.opening.namespaces s.world.opening.records) namespace after most full)
 on_store s n commands.Report = (s.world, report s)
 
 -- ---- opening
 
 -- the store stands where its first session was opened
-abbrev pub started : List Bytes → WorldValue × StepAnswer → Option OpenedValue × Answer
-started names after = if is_started after.1 then (Some (record { world = after.0; names = names }), answers.Reply replies.Done) else (None, answer_of_step 0 0 after.0 after.1)
+abbrev pub started : WorldValue × StepAnswer → Option OpenedValue × Answer
+started after = if is_started after.1 then (Some (record { world = after.0 }), answers.Reply replies.Done) else (None, answer_of_step 0 0 after.0 after.1)
 
 -- a world of the configuration, and its session 0
 abbrev pub store_begun : Config → Option OpenedValue × Answer
-store_begun c = started (map (λ n. n.name) c.namespaces) (move (new_world c) (Locked 0 calls.Session))
+store_begun c = started (move (new_world c) (Locked 0 calls.Session))
 
 -- the same, unless a part of the configuration is malformed: then the first such is told
 abbrev pub store_opened : Config → Option OpenedValue × Answer
@@ -247,7 +247,7 @@ store_opened c = option_map_or (λ field. (None, answers.BadConfig field)) (bad_
 
 -- the store that stands has the world after the command
 abbrev pub with_world : OpenedValue → WorldValue × Answer → Option OpenedValue × Answer
-with_world s after = (Some (record { world = after.0; names = s.names }), after.1)
+with_world s after = (Some (record { world = after.0 }), after.1)
 
 -- a command in the session n: the store after it, and the answer. Without a store no session is open.
 abbrev pub command_done : Option OpenedValue → ℕ → Command → Option OpenedValue × Answer

@@ -10,7 +10,7 @@ use Rattle.snap_call.specs.declared.entry.Entry.{Entry}
 use Rattle.snap_call.specs.declared.reply.Reply.{Reply}
 use Rattle.snap_call.specs.declared.reply.Reply.TheVariants as replies
 use Rattle.snap_call.specs.declared.refusal.Refusal.TheVariants.{BadArgument, NoNamespace}
-use Rattle.snap_history.specs.History.{entries_from, history, history_page, namespace_in}
+use Rattle.snap_history.specs.History.{entries_from, history_page, history_since, namespace_in}
 use Rattle.snap_history.specs.declared.info.EntryInfo.{EntryInfo}
 use Rattle.snap_world.specs.World.{WorldValue}
 use Rattle.snap_script.specs.Calls.{call_line}
@@ -73,9 +73,9 @@ line_at w carried info = option_and_then (λ e. entry_line (held_name carried w.
 abbrev pub journal_entry : WorldValue → List Carried → Bool → Bool → EntryInfo → JournalEntry
 journal_entry w carried all full info = record { entry = info; namespace = if all then namespace_at w carried info else None; line = if full then line_at w carried info else None }
 
--- those of the namespace of this name, of a greater number, at most so many, or that there is no such namespace
+-- those of the namespace of this name since it was last made, of a greater number, at most so many, or that there is no such namespace
 abbrev pub journal_in : WorldValue → List Carried → ℕ → ℕ → Bool → Bytes → Answer
-journal_in w carried after most full namespace = option_map_or (λ p. answers.Journal (map (journal_entry w carried false full) (history_page after most (history p w.opening w.journal)))) (place_of namespace w.state.namespaces) (refusal_answer NoNamespace)
+journal_in w carried after most full namespace = option_map_or (λ place. answers.Journal (map (journal_entry w carried false full) (history_page after most (history_since namespace w.opening w.journal)))) (place_of namespace w.state.namespaces) (refusal_answer NoNamespace)
 
 -- those of the round
 abbrev pub journal_all : WorldValue → List Carried → ℕ → ℕ → Bool → Answer

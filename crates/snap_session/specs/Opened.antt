@@ -1,18 +1,18 @@
 -- The store that a script has opened; the public clauses of `Script` see this value.
-use Rattle.std.specs.Prelude.{ℕ, Bool, false, List, [], Option, None, replicate, map, unwrap_or}
+use Rattle.std.specs.Prelude.{ℕ, Bool, false, if◌then◌else◌, List, [], Option, None, Some, filter_map, replicate, unwrap_or}
 use Rattle.std.specs.Option.{option_map}
 use Rattle.snap_usage.specs.declared.usage.Usage.{Usage}
 use Rattle.snap_usage.specs.Counted.{no_usage}
 use Rattle.snap_record.specs.Labels.{Bytes}
 use Rattle.snap_call.specs.declared.config.Config.{Config}
+use Rattle.snap_call.specs.declared.config.Namespace.{Namespace}
 use Rattle.snap_call.specs.Records.{charge_of}
-use Rattle.snap_call.specs.State.{opening, place_of}
+use Rattle.snap_call.specs.State.{is_taken, opening, place_of}
 use Rattle.snap_world.specs.World.{WorldValue, hand_at}
 
--- a world, and the names of its namespaces as its configuration has them
+-- a world
 pub record OpenedValue : Type 0 where
   pub world : WorldValue
-  pub names : List Bytes
 
 -- the store that a script has opened, or none; and whether, without one, the name is gone that it would have
 pub record ScriptValue : Type 0 where
@@ -35,6 +35,10 @@ share_at slot w = unwrap_or (option_map (λ h. h.snapshot.share.usage) (hand_at 
 abbrev pub total_of : WorldValue → Bytes → Usage
 total_of w name = unwrap_or (option_map (λ place. charge_of place w.state.records) (place_of name w.state.namespaces)) no_usage
 
--- each name with its total
-abbrev pub totals_of : WorldValue → List Bytes → List (Bytes × Usage)
-totals_of w names = map (λ name. (name, total_of w name)) names
+-- its name with its total, where a namespace stands there
+abbrev pub named_total : WorldValue → Namespace → Option (Bytes × Usage)
+named_total w n = if is_taken n then Some (n.name, total_of w n.name) else None
+
+-- those of all namespaces, in the order of their places
+abbrev pub totals_of : WorldValue → List (Bytes × Usage)
+totals_of w = filter_map (named_total w) w.state.namespaces

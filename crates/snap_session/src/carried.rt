@@ -2,7 +2,7 @@
 ghost use Rattle.std.specs.Prelude.{◌≡◌, IfOk, option_copied};
 ghost use Rattle.snap_session.specs.Carried.{carried_from, carried_name, carried_of};
 
-use snap_call::Records;
+use snap_call::{Namespace, Records};
 use snap_record::{Content, Record, Sequence, Text};
 use std::alloc::{AllocError, Global};
 
@@ -33,17 +33,17 @@ impl SnapshotName {
 }
 
 // The snapshot of the record, where it is active.
-fn carried_from(names: &[Text], snapshot: &Record) -> Result<Option<Carried>, AllocError>
-    ensures { IfOk result (λ found. found ≡ carried_from names.now snapshot.now) }
+fn carried_from(namespaces: &[Namespace], snapshot: &Record) -> Result<Option<Carried>, AllocError>
+    ensures { IfOk result (λ found. found ≡ carried_from namespaces.now snapshot.now) }
 {
     let Content::Active { .. } = &snapshot.content else {
         return Ok(None);
     };
-    let Some(namespace) = names.get(snapshot.namespace) else {
+    let Some(namespace) = namespaces.get(snapshot.namespace) else {
         return Ok(None);
     };
     let name = SnapshotName {
-        namespace: namespace.clone()?,
+        namespace: namespace.name.clone()?,
         key: snapshot.key.clone()?,
     };
     Ok(Some(Carried {
@@ -55,15 +55,15 @@ fn carried_from(names: &[Text], snapshot: &Record) -> Result<Option<Carried>, Al
 // The active ones among the records, in their order.
 pub(crate) fn carried_of(
     alloc: Global,
-    names: &[Text],
+    namespaces: &[Namespace],
     records: &Records,
 ) -> Result<Sequence<Carried>, AllocError>
-    ensures { IfOk result (λ found. found ≡ carried_of names.now records.now) }
+    ensures { IfOk result (λ found. found ≡ carried_of namespaces.now records.now) }
 {
     let list = records.list(alloc)?;
     let mut found = Sequence::new(alloc);
     for record in &list {
-        if let Some(snapshot) = carried_from(names, record)? {
+        if let Some(snapshot) = carried_from(namespaces, record)? {
             found.push(snapshot)?;
         }
     }

@@ -2,7 +2,6 @@
 ghost use Rattle.std.specs.Prelude.{◌≡◌, IfOk};
 ghost use Rattle.snap_session.specs.Leases.{leases, one_lease};
 
-use crate::tree::place_among;
 use snap_call::Refusal;
 use snap_lease::LeaseInfo;
 use snap_ledger::StoreName;
@@ -26,14 +25,13 @@ fn one_lease(alloc: Global, info: Option<LeaseInfo>) -> Result<Answer, AllocErro
 pub(crate) fn leases<N: StoreName>(
     alloc: Global,
     world: &World<N>,
-    names: &[Text],
     namespace: Text,
     lease: Option<Text>,
 ) -> Result<Answer, NoMemory>
-    ensures { IfOk result (λ answer. answer ≡ leases (record { world = world.now; names = names.now }) namespace lease) }
+    ensures { IfOk result (λ answer. answer ≡ leases world.now.state namespace lease) }
 {
     let namespace = namespace.as_str();
-    if place_among(names, namespace).is_none() {
+    if world.state().place_of(namespace).is_none() {
         return Ok(Answer::refused(Refusal::NoNamespace));
     }
     match lease {

@@ -1,7 +1,7 @@
 // The store that a script has opened.
 ghost use Rattle.std.specs.Prelude.{◌≡◌, [], Some, IfOk};
 ghost use Rattle.snap_session.specs.Carried.{carried_of};
-ghost use Rattle.snap_session.specs.Opened.{total_of, totals_of};
+ghost use Rattle.snap_session.specs.Opened.{named_total, total_of, totals_of};
 ghost use Rattle.snap_session.specs.Commands.{with_world, on_store, report};
 
 use crate::batch::batch;
@@ -16,20 +16,19 @@ use crate::quota::quota;
 use crate::round::{reopen, roll};
 use crate::step::called;
 use crate::tree::tree;
-use snap_call::Refusal;
+use snap_call::{Namespace, Refusal};
 use snap_ledger::StoreName;
 use snap_record::{Sequence, Text};
 use snap_script::{Answer, Command};
 use snap_usage::Usage;
 use snap_world::{NoMemory, World};
-use std::alloc::Global;
+use std::alloc::{AllocError, Global};
 use std::marker::Model;
 
-// A world, the names of its namespaces, and the snapshots that were active when the round began.
+// A world, and the snapshots that were active when the round began.
 #[derive(Drop)]
 pub(crate) struct Opened<N: StoreName> {
     world: World<N>,
-    names: Sequence<Text>,
     carried: Sequence<Carried>,
 }
 
@@ -40,9 +39,9 @@ impl<N: StoreName> Model for Opened<N> {
 
     ghost Value = { OpenedValue };
 
-    ghost view = { λ s. record { world = s.world; names = s.names } };
+    ghost view = { λ s. record { world = s.world } };
 
-    ghost invariant = { λ s. s.carried ≡ carried_of s.names s.world.opening.records };
+    ghost invariant = { λ s. s.carried ≡ carried_of s.world.opening.namespaces s.world.opening.records };
 }
 
 // What the namespace of this name is charged.
@@ -55,29 +54,43 @@ fn total_of<N: StoreName>(world: &World<N>, name: &str) -> Usage
     }
 }
 
+// Its name with its total, where a namespace stands there.
+fn named_total<N: StoreName>(
+    world: &World<N>,
+    namespace: &Namespace,
+) -> Result<Option<(Text, Usage)>, AllocError>
+    ensures { IfOk result (λ found. found ≡ named_total world.now namespace.now) }
+{
+    if !namespace.is_taken() {
+        return Ok(None);
+    }
+    let total = total_of(world, namespace.name.as_str());
+    Ok(Some((namespace.name.clone()?, total)))
+}
+
 fn totals_of<N: StoreName>(
     alloc: Global,
     world: &World<N>,
-    names: &[Text],
-) -> Result<Sequence<(Text, Usage)>, NoMemory>
-    ensures { IfOk result (λ totals. totals ≡ totals_of world.now names.now) }
+) -> Result<Sequence<(Text, Usage)>, AllocError>
+    ensures { IfOk result (λ totals. totals ≡ totals_of world.now) }
 {
     let mut totals = Sequence::new(alloc);
-    for name in names {
-        let total = total_of(world, name.as_str());
-        totals.push((name.clone()?, total))?;
+    for namespace in world.state().namespaces.as_slice() {
+        if let Some(total) = named_total(world, namespace)? {
+            totals.push(total)?;
+        }
     }
     Ok(totals)
 }
 
-fn report<N: StoreName>(alloc: Global, world: &World<N>, names: &[Text]) -> Result<Answer, NoMemory>
-    ensures { IfOk result (λ answer. answer ≡ report (record { world = world.now; names = names.now })) }
+fn report<N: StoreName>(alloc: Global, world: &World<N>) -> Result<Answer, NoMemory>
+    ensures { IfOk result (λ answer. answer ≡ report (record { world = world.now })) }
 {
     Ok(Answer::Report {
         entries: world.journal().len() as u64,
         actives: world.open_slots(),
         records: world.records().len() as u64,
-        totals: totals_of(alloc, world, names)?,
+        totals: totals_of(alloc, world)?,
     })
 }
 
@@ -85,20 +98,19 @@ fn report<N: StoreName>(alloc: Global, world: &World<N>, names: &[Text]) -> Resu
 fn on_store<N: StoreName>(
     alloc: Global,
     world: &mut World<N>,
-    names: &[Text],
     carried: &mut Sequence<Carried>,
     n: u64,
     command: Command,
 ) -> Result<Answer, NoMemory>
-    requires { carried.old ≡ carried_of names.now world.old.opening.records }
-    ensures done { IfOk result (λ answer. on_store (record { world = world.old; names = names.now }) n command ≡ (world.new, answer)) }
-    ensures carried { carried.new ≡ carried_of names.now world.new.opening.records }
+    requires { carried.old ≡ carried_of world.old.opening.namespaces world.old.opening.records }
+    ensures done { IfOk result (λ answer. on_store (record { world = world.old }) n command ≡ (world.new, answer)) }
+    ensures carried { carried.new ≡ carried_of world.new.opening.namespaces world.new.opening.records }
 {
     match command {
         Command::Open { config: _ } => Ok(Answer::refused(Refusal::BadArgument)),
         Command::Session => session(world),
-        Command::Reopen { journal } => reopen(alloc, world, names, carried, journal),
-        Command::Roll { journal } => roll(alloc, world, names, carried, journal),
+        Command::Reopen { journal } => reopen(alloc, world, carried, journal),
+        Command::Roll { journal } => roll(alloc, world, carried, journal),
         Command::Call(call) => called(world, n, 0, call),
         Command::Ask(question) => ask(world, question),
         Command::Charge {
@@ -137,9 +149,9 @@ fn on_store<N: StoreName>(
         } => lookup(alloc, world, namespace, key, asked, path, peek),
         Command::TrySweep { namespace, moment } => try_sweep(world, namespace, moment),
         Command::ChainUsage { namespace, key } => Ok(chain_usage(world, namespace, key)),
-        Command::Quota { namespace } => quota(alloc, world, names, namespace),
-        Command::Leases { namespace, lease } => leases(alloc, world, names, namespace, lease),
-        Command::Tree { namespace } => tree(alloc, world, names, namespace),
+        Command::Quota { namespace } => quota(alloc, world, namespace),
+        Command::Leases { namespace, lease } => leases(alloc, world, namespace, lease),
+        Command::Tree { namespace } => tree(alloc, world, namespace),
         Command::Diff {
             namespace,
             key,
@@ -160,19 +172,18 @@ fn on_store<N: StoreName>(
             most,
             full,
         ),
-        Command::Report => report(alloc, world, names),
+        Command::Report => report(alloc, world),
     }
 }
 
 impl<N: StoreName> Opened<N> {
-    // The world before the first round's entries, with the names of its namespaces: no snapshot is active.
-    pub(crate) fn new(alloc: Global, world: World<N>, names: Sequence<Text>) -> Opened<N>
+    // The world in its first round: no snapshot was active when it began.
+    pub(crate) fn new(alloc: Global, world: World<N>) -> Opened<N>
         requires { world.opening.records ≡ [] }
-        ensures { result ≡ record { world = world; names = names } }
+        ensures { result ≡ record { world = world } }
     {
         Opened {
             world,
-            names,
             carried: Sequence::new(alloc),
         }
     }
@@ -186,13 +197,6 @@ impl<N: StoreName> Opened<N> {
     ) -> Result<Answer, NoMemory>
         ensures { IfOk result (λ answer. with_world self.old (on_store self.old n command) ≡ (Some self.new, answer)) }
     {
-        on_store(
-            alloc,
-            &mut self.world,
-            self.names.as_slice(),
-            &mut self.carried,
-            n,
-            command,
-        )
+        on_store(alloc, &mut self.world, &mut self.carried, n, command)
     }
 }

@@ -1,8 +1,8 @@
 // What namespaces may take and what they take.
 ghost use Rattle.std.specs.Prelude.{◌≡◌, IfOk, filter_map};
-ghost use Rattle.snap_session.specs.Quota.{named_quota, one_quota, quota_answer, quota_info};
+ghost use Rattle.snap_session.specs.Quota.{named_quota, one_quota, quota_answer, quota_of_place, quota_info};
 
-use snap_call::Refusal;
+use snap_call::{Namespace, Refusal};
 use snap_ledger::StoreName;
 use snap_record::{Sequence, Text};
 use snap_script::{Answer, QuotaInfo};
@@ -34,16 +34,28 @@ fn named_quota<N: StoreName>(
     }
 }
 
+// The same, where a namespace stands there.
+fn quota_of_place<N: StoreName>(
+    world: &World<N>,
+    namespace: &Namespace,
+) -> Result<Option<(Text, QuotaInfo)>, AllocError>
+    ensures { IfOk result (λ found. found ≡ quota_of_place world.now namespace.now) }
+{
+    if !namespace.is_taken() {
+        return Ok(None);
+    }
+    named_quota(world, &namespace.name)
+}
+
 fn quotas<N: StoreName>(
     alloc: Global,
     world: &World<N>,
-    names: &[Text],
 ) -> Result<Sequence<(Text, QuotaInfo)>, AllocError>
-    ensures { IfOk result (λ found. found ≡ filter_map (named_quota world.now) names.now) }
+    ensures { IfOk result (λ found. found ≡ filter_map (quota_of_place world.now) world.now.state.namespaces) }
 {
     let mut found = Sequence::new(alloc);
-    for name in names {
-        if let Some(quota) = named_quota(world, name)? {
+    for namespace in world.state().namespaces.as_slice() {
+        if let Some(quota) = quota_of_place(world, namespace)? {
             found.push(quota)?;
         }
     }
@@ -65,13 +77,12 @@ fn one_quota(alloc: Global, quota: Option<(Text, QuotaInfo)>) -> Result<Answer, 
 pub(crate) fn quota<N: StoreName>(
     alloc: Global,
     world: &World<N>,
-    names: &[Text],
     namespace: Option<Text>,
 ) -> Result<Answer, NoMemory>
-    ensures { IfOk result (λ answer. answer ≡ quota_answer (record { world = world.now; names = names.now }) namespace) }
+    ensures { IfOk result (λ answer. answer ≡ quota_answer world.now namespace) }
 {
     match namespace {
-        None => Ok(Answer::Quota(quotas(alloc, world, names)?)),
+        None => Ok(Answer::Quota(quotas(alloc, world)?)),
         Some(name) => Ok(one_quota(alloc, named_quota(world, &name)?)?),
     }
 }

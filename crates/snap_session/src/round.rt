@@ -11,7 +11,7 @@ use crate::carried::{Carried, carried_of};
 use crate::step::{call, told};
 use snap_call::{Call, Reply};
 use snap_ledger::StoreName;
-use snap_record::{Sequence, Text};
+use snap_record::Sequence;
 use snap_script::Answer;
 use snap_world::{Answer as StepAnswer, NoMemory, ReopenFault, World};
 use std::alloc::Global;
@@ -50,16 +50,16 @@ fn open_round<N: StoreName>(world: &mut World<N>) -> Result<Answer, NoMemory>
 pub(crate) fn reopen<N: StoreName>(
     alloc: Global,
     world: &mut World<N>,
-    names: &[Text],
     carried: &mut Sequence<Carried>,
     journal: u64,
 ) -> Result<Answer, NoMemory>
-    requires { carried.old ≡ carried_of names.now world.old.opening.records }
+    requires { carried.old ≡ carried_of world.old.opening.namespaces world.old.opening.records }
     ensures done { IfOk result (λ answer. reopen world.old journal ≡ (world.new, answer)) }
-    ensures carried { carried.new ≡ carried_of names.now world.new.opening.records }
+    ensures carried { carried.new ≡ carried_of world.new.opening.namespaces world.new.opening.records }
 {
     world.reserve_session()?;
-    let active = carried_of(alloc, names, world.records())?;
+    let namespaces = world.state().namespaces.as_slice();
+    let active = carried_of(alloc, namespaces, world.records())?;
     match world.reopen(journal) {
         Ok(()) => {
             *carried = active;
@@ -74,16 +74,16 @@ pub(crate) fn reopen<N: StoreName>(
 pub(crate) fn roll<N: StoreName>(
     alloc: Global,
     world: &mut World<N>,
-    names: &[Text],
     carried: &mut Sequence<Carried>,
     journal: u64,
 ) -> Result<Answer, NoMemory>
-    requires { carried.old ≡ carried_of names.now world.old.opening.records }
+    requires { carried.old ≡ carried_of world.old.opening.namespaces world.old.opening.records }
     ensures done { IfOk result (λ answer. roll world.old journal ≡ (world.new, answer)) }
-    ensures carried { carried.new ≡ carried_of names.now world.new.opening.records }
+    ensures carried { carried.new ≡ carried_of world.new.opening.namespaces world.new.opening.records }
 {
     world.reserve_session()?;
-    let active = carried_of(alloc, names, world.records())?;
+    let namespaces = world.state().namespaces.as_slice();
+    let active = carried_of(alloc, namespaces, world.records())?;
     match world.roll(journal) {
         Ok(()) => {
             *carried = active;

@@ -14,7 +14,7 @@ use crate::round::is_started;
 use crate::step::call;
 use snap_call::{Call, Config, Refusal, Reply};
 use snap_ledger::{NewTable, StoreName};
-use snap_script::{Answer, Command, Line, names_of};
+use snap_script::{Answer, Command, Line};
 use snap_world::{NoMemory, World};
 use std::alloc::Global;
 use std::marker::Model;
@@ -93,7 +93,6 @@ impl<N: StoreName> Script<N> {
         ensures store { IfOk result (λ answer. store_begun config ≡ (self.new.store, answer)) }
         ensures spent { OnOk result (self.new.spent ≡ self.old.spent) }
     {
-        let names = names_of(self.alloc, config.namespaces.as_slice())?;
         if let Some(no_memory) = self.refused {
             return Err(no_memory);
         }
@@ -102,7 +101,7 @@ impl<N: StoreName> Script<N> {
         };
         match begun(self.alloc, table, config) {
             Ok(world) => {
-                self.store = Some(Opened::new(self.alloc, world, names));
+                self.store = Some(Opened::new(self.alloc, world));
                 Ok(Answer::Reply(Reply::Done))
             }
             Err(no_memory) => {

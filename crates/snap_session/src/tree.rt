@@ -1,6 +1,6 @@
 // The snapshots of a namespace as a forest by parent.
 ghost use Rattle.std.specs.Prelude.{◌≡◌, ◌==◌, IfOk};
-ghost use Rattle.snap_session.specs.Tree.{tree_node, forest, place_among, tree};
+ghost use Rattle.snap_session.specs.Tree.{tree_node, forest, tree};
 
 use snap_call::{Records, Refusal};
 use snap_ledger::StoreName;
@@ -43,22 +43,14 @@ fn forest(alloc: Global, records: &Records, place: usize) -> Result<Sequence<Tre
     Ok(nodes)
 }
 
-// The place of the namespace of this name.
-pub(crate) fn place_among(names: &[Text], namespace: &str) -> Option<usize>
-    ensures { result ≡ place_among namespace.now names.now }
-{
-    names.iter().position(|name| name.as_str() == namespace)
-}
-
 pub(crate) fn tree<N: StoreName>(
     alloc: Global,
     world: &World<N>,
-    names: &[Text],
     namespace: Text,
 ) -> Result<Answer, NoMemory>
-    ensures { IfOk result (λ answer. answer ≡ tree (record { world = world.now; names = names.now }) namespace) }
+    ensures { IfOk result (λ answer. answer ≡ tree world.now.state namespace) }
 {
-    let Some(place) = place_among(names, namespace.as_str()) else {
+    let Some(place) = world.state().place_of(namespace.as_str()) else {
         return Ok(Answer::refused(Refusal::NoNamespace));
     };
     Ok(Answer::Tree(forest(alloc, world.records(), place)?))

@@ -1,6 +1,6 @@
 -- Which replies the plain calls have.
-use Rattle.std.specs.Prelude.{if◌then◌else◌, Bool, true, false}
-use Rattle.std.specs.Option.{option_map_or}
+use Rattle.std.specs.Prelude.{if◌then◌else◌, Bool, true, false, count_by, nat_lt}
+use Rattle.std.specs.Option.{option_map_or, is_some}
 use Rattle.std.proofs.Common.{ℕ, List, Option, None, Some, sym, subst}
 use Rattle.snap_record.specs.Labels.{Bytes, Label}
 use Rattle.snap_record.specs.Records.{info_of, usage_of}
@@ -14,15 +14,16 @@ use Rattle.snap_call.specs.declared.call.Call.{Call}
 use Rattle.snap_call.specs.declared.call.Call.TheVariants as calls
 use Rattle.snap_call.specs.declared.call.Given.TheVariants.{Nothing}
 use Rattle.snap_call.specs.declared.refusal.Refusal.{Refusal}
-use Rattle.snap_call.specs.declared.refusal.Refusal.TheVariants.{HasChildren, InUse, Leased, NoLease, NotCommitted, NotFound}
+use Rattle.snap_call.specs.declared.refusal.Refusal.TheVariants.{BadArgument, HasChildren, InUse, Leased, NoLease, NamespaceExists, NotCommitted, NotFound, TooManyNamespaces}
 use Rattle.snap_call.specs.declared.reply.Reply.{Reply}
 use Rattle.snap_call.specs.declared.reply.Reply.TheVariants as replies
+use Rattle.snap_call.specs.declared.config.Namespace.{Namespace}
 use Rattle.snap_call.specs.declared.state.State.{State}
-use Rattle.snap_call.specs.Forms.{is_key}
+use Rattle.snap_call.specs.Forms.{is_key, is_namespace}
 use Rattle.snap_call.specs.Records.{has_children, is_active, is_committed, record_at}
-use Rattle.snap_call.specs.State.{place_of}
-use Rattle.snap_call.specs.Step.{ask, leasing, mounts, refused, removed_at, step, sweep, at_record}
-use Rattle.snap_call.specs.Steps.{lease_add, lease_create, lease_drop, lease_release, remove, set_limit, update, walk_infos}
+use Rattle.snap_call.specs.State.{is_taken, most_namespaces, place_of, with_namespace}
+use Rattle.snap_call.specs.Step.{ask, leasing, mounts, refused, removed_at, spacing, step, sweep, at_record}
+use Rattle.snap_call.specs.Steps.{lease_add, lease_create, lease_drop, lease_release, namespace_create, namespace_remove, remove, set_limit, update, walk_infos}
 use Rattle.snap_call.proofs.Parts.{lease_add_record, lease_drop_at, remove_record}
 use Rattle.snap_accounts.specs.Entries.{IsPlain}
 use Rattle.snap_book.specs.Book.{AnsweredBy, BookValue}
@@ -84,6 +85,21 @@ of_limit : (P : Reply → Type 0) (s : State) (namespace : Bytes) (limit : Usage
 of_limit P s namespace limit why other =
     either P _ _ _ (in_place P s (place_of namespace s.namespaces) _ _ (λ place. either P _ _ _ other (why _)) (why _)) (why _)
 
+made_by : (P : Reply → Type 0) (s t : State) (a b c : Bool) (x y z : Refusal) → ((why : Refusal) → P (replies.Refused why)) → P replies.Done
+    → P (if a then if b then refused s x else if c then (t, replies.Done) else refused s y else refused s z).1
+made_by P s t true true c x y z why other = why _
+made_by P s t true false true x y z why other = other
+made_by P s t true false false x y z why other = why _
+made_by P s t false b c x y z why other = why _
+
+of_namespace_create : (P : Reply → Type 0) (s : State) (namespace : Bytes) (limit : Usage) → ((why : Refusal) → P (replies.Refused why)) → P replies.Done → P (namespace_create s namespace limit).1
+of_namespace_create P s namespace limit why other =
+    let n : Namespace = record { name = namespace; limit = limit } in
+    made_by P s (spacing s (with_namespace n s.namespaces)) (is_namespace n) (is_some (place_of namespace s.namespaces)) (nat_lt (count_by is_taken s.namespaces) most_namespaces) NamespaceExists TooManyNamespaces BadArgument why other
+
+of_namespace_remove : (P : Reply → Type 0) (s : State) (namespace : Bytes) → ((why : Refusal) → P (replies.Refused why)) → P replies.Done → P (namespace_remove s namespace).1
+of_namespace_remove P s namespace why other = in_place P s (place_of namespace s.namespaces) _ _ (λ place. either P _ _ _ (why _) other) (why _)
+
 of_lease : (P : Reply → Type 0) (s : State) (namespace lease : Bytes) (until : Option ℕ) → ((why : Refusal) → P (replies.Refused why)) → P replies.Done → P (lease_create s namespace lease until).1
 of_lease P s namespace lease until why other =
     either P _ _ _ (in_place P s (place_of namespace s.namespaces) _ _ (λ place. either P _ _ _ (why _) other) (why _)) (why _)
@@ -137,6 +153,8 @@ reply_of s (calls.Remove namespace key) plain = of_remove (IsReplyTo (calls.Remo
 reply_of s (calls.Update namespace key labels paths) plain = of_update (IsReplyTo (calls.Update namespace key labels paths)) s namespace key labels paths (λ why. tt) (λ info. tt)
 reply_of s (calls.Walk namespace after most asked) plain = of_walk (IsReplyTo (calls.Walk namespace after most asked)) s namespace after most asked (λ why. tt) (λ infos. tt)
 reply_of s (calls.SetLimit namespace limit) plain = of_limit (IsReplyTo (calls.SetLimit namespace limit)) s namespace limit (λ why. tt) tt
+reply_of s (calls.NamespaceCreate namespace limit) plain = of_namespace_create (IsReplyTo (calls.NamespaceCreate namespace limit)) s namespace limit (λ why. tt) tt
+reply_of s (calls.NamespaceRemove namespace) plain = of_namespace_remove (IsReplyTo (calls.NamespaceRemove namespace)) s namespace (λ why. tt) tt
 reply_of s (calls.LeaseCreate namespace lease until) plain = of_lease (IsReplyTo (calls.LeaseCreate namespace lease until)) s namespace lease until (λ why. tt) tt
 reply_of s (calls.LeaseAdd namespace lease name) plain = of_lease_add (IsReplyTo (calls.LeaseAdd namespace lease name)) s namespace lease name (λ why. tt) tt
 reply_of s (calls.LeaseDrop namespace lease name) plain = of_lease_drop (IsReplyTo (calls.LeaseDrop namespace lease name)) s namespace lease name (λ why. tt) tt

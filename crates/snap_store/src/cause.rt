@@ -26,8 +26,8 @@ pub struct OpenKey {
 /// Why a store is not closed. The causes are tested in this order.
 #[derive(Debug, Drop, Error)]
 pub enum Cause {
-    /// Active snapshots are open: these, in the order of their namespaces in the configuration, and of the
-    /// bytes of their keys. Each is ended by a commit or a discard.
+    /// Active snapshots are open: these, in the order of their namespaces' places, and of the bytes of their
+    /// keys. Each is ended by a commit or a discard.
     #[error("snapshots are open")]
     StillOut(Sequence<OpenKey>),
     /// The sessions are not all those of the round: their numbers are not 0 to n - 1, each once, or an entry

@@ -164,7 +164,7 @@ impl<N: RoundName> Closed<N> {
 
     /// What the namespace is charged, in blocks of 4096 bytes and inodes: the sum of the counts over its
     /// committed layers. `None` where the store has no such namespace. Takes no memory. The cost grows with
-    /// the number of namespaces.
+    /// the logarithm of the number of namespaces.
     pub fn totals(&self, namespace: &str) -> Option<Usage>
         ensures counts { result ≡ option_map (λ place. sum_of counted_in place self.now.state.records) (place_of namespace.now self.now.state.namespaces) }
         ensures charge { result ≡ option_map (λ place. charge_of place self.now.state.records) (place_of namespace.now self.now.state.namespaces) }

@@ -343,6 +343,45 @@ impl<N: RoundName> Store<N> {
         answer!(self.ask(rt, session, call), Reply::Done => ())
     }
 
+    /// Makes a namespace, with a limit in blocks of 4096 bytes and inodes.
+    ///
+    /// Refusals, after `JournalFull` and `OutOfMemory`: `BadArgument` for a name that is malformed or above 2^40 of a
+    /// quantity, `NamespaceExists`, `TooManyNamespaces` where there are 4096.
+    pub fn namespace_create<R: Wait>(
+        &self,
+        rt: &R,
+        session: &mut Session,
+        namespace: &str,
+        limit: Usage,
+    ) -> Result<(), Refusal>
+        ensures granted { OnOk result (Taped session.old session.new (calls.NamespaceCreate namespace.now limit) Nothing replies.Done) }
+        ensures refused { IfErr result (λ why. RefusedOn session.old session.new (calls.NamespaceCreate namespace.now limit) Nothing why) }
+        ensures room { session.old.spare ≤ session.new.spare + 1 }
+    {
+        let call = Call::NamespaceCreate {
+            namespace: Text::copy_of(self.alloc, namespace)?,
+            limit,
+        };
+        answer!(self.ask(rt, session, call), Reply::Done => ())
+    }
+
+    /// Takes a namespace away that has no snapshot and no lease. Its place is free for another.
+    ///
+    /// Refusals, after `JournalFull` and `OutOfMemory`: `NoNamespace`, `NotEmpty`.
+    pub fn namespace_remove<R: Wait>(
+        &self,
+        rt: &R,
+        session: &mut Session,
+        namespace: &str,
+    ) -> Result<(), Refusal>
+        ensures granted { OnOk result (Taped session.old session.new (calls.NamespaceRemove namespace.now) Nothing replies.Done) }
+        ensures refused { IfErr result (λ why. RefusedOn session.old session.new (calls.NamespaceRemove namespace.now) Nothing why) }
+        ensures room { session.old.spare ≤ session.new.spare + 1 }
+    {
+        let namespace = Text::copy_of(self.alloc, namespace)?;
+        answer!(self.ask(rt, session, Call::NamespaceRemove { namespace }), Reply::Done => ())
+    }
+
     /// Gives a namespace another limit, in blocks of 4096 bytes and inodes.
     ///
     /// Refusals, after `JournalFull` and `OutOfMemory`: `BadArgument` above 2^40 of a quantity, `NoNamespace`,

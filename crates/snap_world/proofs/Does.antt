@@ -114,6 +114,12 @@ plain_does old new hands n call reply asks answered full = at call asks answered
     at (calls.Walk namespace after most asked) a h =
         ⊎_elim (λ e. inl e) (λ e. inr (ap answers.Reply e.0, (e.1, ap (λ (b : BookValue). world_of b hands) e.2)))
         (admits old new hands hands hands 1 n (calls.Walk namespace after most asked) Nothing (λ r. hands) reply (ends old new n (calls.Walk namespace after most asked) Nothing reply h) full_here refl refl)
+    at (calls.NamespaceCreate namespace limit) a h =
+        ⊎_elim (λ e. inl e) (λ e. inr (ap answers.Reply e.0, (e.1, ap (λ (b : BookValue). world_of b hands) e.2)))
+        (admits old new hands hands hands 1 n (calls.NamespaceCreate namespace limit) Nothing (λ r. hands) reply (ends old new n (calls.NamespaceCreate namespace limit) Nothing reply h) full_here refl refl)
+    at (calls.NamespaceRemove namespace) a h =
+        ⊎_elim (λ e. inl e) (λ e. inr (ap answers.Reply e.0, (e.1, ap (λ (b : BookValue). world_of b hands) e.2)))
+        (admits old new hands hands hands 1 n (calls.NamespaceRemove namespace) Nothing (λ r. hands) reply (ends old new n (calls.NamespaceRemove namespace) Nothing reply h) full_here refl refl)
     at (calls.SetLimit namespace limit) a h =
         ⊎_elim (λ e. inl e) (λ e. inr (ap answers.Reply e.0, (e.1, ap (λ (b : BookValue). world_of b hands) e.2)))
         (admits old new hands hands hands 1 n (calls.SetLimit namespace limit) Nothing (λ r. hands) reply (ends old new n (calls.SetLimit namespace limit) Nothing reply h) full_here refl refl)

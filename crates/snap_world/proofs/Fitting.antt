@@ -1,6 +1,6 @@
 -- Each step keeps the hands those of the open slots.
 use Rattle.std.proofs.Common.{◌≡◌, ◌≢◌, inl, inr, ℕ, ◌+◌, ◌≤◌, ◌<◌, List, length, true, false, Bool, Option, None, Some, eqb, refl, sym, ap, ◌∙◌, subst, ⊎_elim, arith, length-set}
-use Rattle.std.specs.Prelude.{if◌then◌else◌, ◌&&◌, nat_le, nat_lt, max, Result, Ok, Err, IsSome}
+use Rattle.std.specs.Prelude.{if◌then◌else◌, ◌&&◌, ◌||◌, nat_le, nat_lt, max, count_by, Result, Ok, Err, IsSome}
 use Rattle.std.specs.List.{AllByRecursion}
 use Rattle.std.proofs.Math.Nat.{le-max_left}
 use Rattle.std.proofs.lemmas.Bool.{ltb-true}
@@ -8,7 +8,7 @@ use Rattle.std.proofs.lemmas.Bool.Decides.{eqb_tells}
 use Rattle.snap_layer.specs.Tree.{Tree}
 use Rattle.snap_usage.specs.declared.usage.Usage.{Usage}
 use Rattle.snap_usage.specs.Counted.{Covers, count_of, covers}
-use Rattle.snap_lease.specs.Leases.{has_lease, lease_names}
+use Rattle.snap_lease.specs.Leases.{has_lease, has_leases, lease_names}
 use Rattle.snap_record.specs.Labels.{Bytes, Label}
 use Rattle.snap_record.specs.Records.{usage_of, info_of}
 use Rattle.snap_record.specs.Updates.{is_granted, is_well_formed, updated as labels_after}
@@ -23,16 +23,17 @@ use Rattle.snap_call.specs.declared.refusal.Refusal.TheVariants.{NoNamespace, No
 use Rattle.snap_call.specs.declared.refusal.Refusal.{Refusal}
 use Rattle.snap_call.specs.declared.reply.Reply.{Reply}
 use Rattle.snap_call.specs.declared.reply.Reply.TheVariants as replies
+use Rattle.snap_call.specs.declared.config.Namespace.{Namespace}
 use Rattle.snap_call.specs.declared.state.State.{State}
 use Rattle.snap_call.specs.Good.{Good}
 use Rattle.snap_call.specs.Journal.{call_entry}
-use Rattle.snap_call.specs.Records.{active_at, charge_of, has_children, has_key, is_active, is_committed, is_named, is_slot, recharged, record_at, relabelled, with_record, without_key, without_slot, committed_as, max_sessions}
-use Rattle.snap_call.specs.Forms.{is_key, is_limit, is_page, is_start}
+use Rattle.snap_call.specs.Records.{active_at, charge_of, has_children, has_key, has_records, is_active, is_committed, is_named, is_slot, recharged, record_at, relabelled, with_record, without_key, without_slot, committed_as, max_sessions}
+use Rattle.snap_call.specs.Forms.{is_key, is_limit, is_namespace, is_page, is_start}
 use Rattle.snap_call.specs.Reached.{unswept}
-use Rattle.snap_call.specs.State.{ancestors, layers_of, most_ancestors, place_of, shown_layers}
+use Rattle.snap_call.specs.State.{ancestors, is_taken, layers_of, most_ancestors, most_namespaces, place_of, shown_layers}
 use Rattle.snap_call.specs.Step.{are_formed, IsAllowed, IsCovered, IsOpenSlot, has_named, in_namespace, sweep, sweep_at, ask, charge, commit_as, committed as committed_state, discard, greater, one, prepared as prepared_state, refused, step, trim, place_for, slot_for, unless_refused, mounts, prepare_view, update_record, new_record, at_record}
-use Rattle.snap_call.specs.Steps.{lease_add, lease_create, lease_drop, lease_release, set_limit, session, remove, update, walk_infos}
-use Rattle.snap_call.proofs.Parts.{lease_add_record, lease_drop_at, charge_to, prepare_at, view_at, remove_record}
+use Rattle.snap_call.specs.Steps.{lease_add, lease_create, lease_drop, lease_release, namespace_create, namespace_remove, set_limit, session, remove, update, walk_infos}
+use Rattle.snap_call.proofs.Parts.{namespace_remove_at, lease_add_record, lease_drop_at, charge_to, prepare_at, view_at, remove_record}
 use Rattle.snap_call.proofs.Alike.{AreAlike, bare, bare-relabelled, alike-active_at, alike-active_at_None, alike-layers}
 use Rattle.snap_call.proofs.Chains.{chain, Every, OnParent, every, on_parent, IsOther, Keeps, Keeps-after, Keeps-recharged, Keeps-with_record, Keeps-without_slot, chain-found, keeps-ancestors, keeps-without_key, on_other}
 use Rattle.snap_call.proofs.Keeping.{covers-Covers, good_chains, good_deep}
@@ -45,7 +46,7 @@ use Rattle.snap_call.proofs.Places.{IsPlace, IsSlotFor, place_for-Ok, slot_for-O
 use Rattle.snap_call.proofs.Replaying.{replays_push}
 use Rattle.snap_call.proofs.Sweeping.{active-ancestors, active_at-unswept}
 use Rattle.snap_call.proofs.Slots.{Active-is_slot, is_slot-other, active_at-with_record_own, active_at-with_record_other, active_at-without_slot_own, active_at-without_slot_other, active_at-without_idle, active_at-recharged_own, active_at-recharged_other, active_at-committed_own, active_at-committed_other}
-use Rattle.std.specs.Option.{option_map, option_map_or}
+use Rattle.std.specs.Option.{is_some, option_map, option_map_or}
 use Rattle.snap_path.specs.Limits.{most_number}
 use Rattle.snap_merge.specs.declared.error.FsError.TheVariants.{NeedsCharge}
 use Rattle.snap_upper.specs.declared.op.Op.{Op}
@@ -310,6 +311,17 @@ left_set_limit s hands namespace limit agree =
     cases_if (Left (λ reply. hands)) (is_limit limit) _ _
     (λ formed. left_in_namespace s hands namespace _ agree (λ place. cases_if (Left (λ reply. hands)) (covers limit (charge_of place s.records)) _ _ (λ covered. agree) (λ below. agree))) (λ bad. agree)
 
+left_namespace_create : (s : State) (hands : List (Option HandValue)) (namespace : Bytes) (limit : Usage) → AgreeAll hands s.records → Left (λ reply. hands) (namespace_create s namespace limit)
+left_namespace_create s hands namespace limit agree =
+    let n : Namespace = record { name = namespace; limit = limit } in
+    cases_if (Left (λ reply. hands)) (is_namespace n) _ _
+    (λ formed. cases_if (Left (λ reply. hands)) (is_some (place_of namespace s.namespaces)) _ _ (λ there. agree)
+    (λ new. cases_if (Left (λ reply. hands)) (nat_lt (count_by is_taken s.namespaces) most_namespaces) _ _ (λ room. agree) (λ full. agree))) (λ bad. agree)
+
+left_namespace_remove : (s : State) (hands : List (Option HandValue)) (namespace : Bytes) → AgreeAll hands s.records → Left (λ reply. hands) (namespace_remove s namespace)
+left_namespace_remove s hands namespace agree =
+    left_in_namespace s hands namespace (namespace_remove_at s namespace) agree (λ place. cases_if (Left (λ reply. hands)) (has_records place s.records || has_leases s.leases namespace) _ _ (λ full. agree) (λ empty. agree))
+
 left_lease_create : (s : State) (hands : List (Option HandValue)) (namespace lease : Bytes) (until : Option ℕ) → AgreeAll hands s.records → Left (λ reply. hands) (lease_create s namespace lease until)
 left_lease_create s hands namespace lease until agree =
     cases_if (Left (λ reply. hands)) (is_key lease) _ _
@@ -489,6 +501,12 @@ fits_called w n (calls.Update namespace key labels paths) fit =
 fits_called w n (calls.Walk namespace after most asked) fit =
     fits_admitted w 1 w.hands _ fit
     (fits_recorded w n (calls.Walk namespace after most asked) Nothing (λ reply. w.hands) fit tt (λ r. fit.places) (left_walk w.state w.hands namespace after most asked fit.hands))
+fits_called w n (calls.NamespaceCreate namespace limit) fit =
+    fits_admitted w 1 w.hands _ fit
+    (fits_recorded w n (calls.NamespaceCreate namespace limit) Nothing (λ reply. w.hands) fit tt (λ r. fit.places) (left_namespace_create w.state w.hands namespace limit fit.hands))
+fits_called w n (calls.NamespaceRemove namespace) fit =
+    fits_admitted w 1 w.hands _ fit
+    (fits_recorded w n (calls.NamespaceRemove namespace) Nothing (λ reply. w.hands) fit tt (λ r. fit.places) (left_namespace_remove w.state w.hands namespace fit.hands))
 fits_called w n (calls.SetLimit namespace limit) fit =
     fits_admitted w 1 w.hands _ fit
     (fits_recorded w n (calls.SetLimit namespace limit) Nothing (λ reply. w.hands) fit tt (λ r. fit.places) (left_set_limit w.state w.hands namespace limit fit.hands))

@@ -101,7 +101,7 @@ impl<N: StoreName> World<N> {
     }
 
     /// What the namespace may take and what it takes. `None` where the store has no such namespace. It leaves no
-    /// entry. Takes no memory. The cost grows with the number of namespaces, and goes over the slots.
+    /// entry. Takes no memory. The cost grows with the logarithm of the number of namespaces, and goes over the slots.
     pub fn quota(&self, namespace: &str) -> Option<Quota>
         ensures { result ≡ quota self.now namespace.now }
     {

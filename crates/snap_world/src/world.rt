@@ -189,7 +189,7 @@ impl<N: StoreName> World<N> {
     }
 
     /// What the namespace is charged, in blocks of 4096 bytes and inodes. `None` where the store has no
-    /// such namespace. Takes no memory. The cost grows with the number of namespaces.
+    /// such namespace. Takes no memory. The cost grows with the logarithm of the number of namespaces.
     pub fn totals(&self, namespace: &str) -> Option<Usage>
         ensures charge { result ≡ option_map (λ place. charge_of place self.now.state.records) (place_of namespace.now self.now.state.namespaces) }
         // The counts over its committed layers, and its open shares.

@@ -1,5 +1,5 @@
 // The records of one namespace.
-ghost use Rattle.std.specs.Prelude.{◌≡◌, ◌<◌, ◌+◌, ◌^◌, ℕ, [], ◌++◌, length, false, map, option_copied, OnOk, OnErr, IfErr, IfOk};
+ghost use Rattle.std.specs.Prelude.{◌≡◌, ◌↔◌, IsTrue, ◌<◌, ◌+◌, ◌^◌, ℕ, [], ◌++◌, length, false, map, option_copied, OnOk, OnErr, IfErr, IfOk};
 ghost use Rattle.std.specs.Map.{values_of};
 ghost use Rattle.snap_call.specs.Records.{record_at, has_key, child_count, with_record, without_key, info_page};
 ghost use Rattle.snap_call.specs.Spaces.{IsOf, AreGroups, beginning, joined_records, edited_at};
@@ -66,6 +66,13 @@ impl Space {
             map: BTreeMap::new(alloc),
             parents: Counts::new(alloc),
         }
+    }
+
+    /// Whether there are no records. Takes no memory.
+    pub(super) fn is_empty(&self) -> bool
+        ensures { IsTrue result ↔ (self.now ≡ []) }
+    {
+        self.map.is_empty()
     }
 
     /// The record of this key. Takes no memory.

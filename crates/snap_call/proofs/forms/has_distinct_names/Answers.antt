@@ -6,7 +6,7 @@ use Rattle.std.specs.List.{list_any}
 use Rattle.snap_record.specs.Labels.{Bytes}
 use Rattle.snap_call.specs.declared.config.Namespace.{Namespace}
 use Rattle.snap_call.specs.Forms.{have_distinct_names}
-use Rattle.snap_call.proofs.Leasing.{has_name}
+use Rattle.snap_call.specs.State.{has_name}
 use Rattle.snap_call.proofs.forms.has_distinct_names.Goals as goal
 
 -- one namespace compared with the ones after it

@@ -1,6 +1,7 @@
 use Rattle.std.proofs.Common.{◌≡◌, take}
-use Rattle.snap_session.specs.Opened.{totals_of}
+use Rattle.std.specs.Prelude.{filter_map}
+use Rattle.snap_session.specs.Opened.{named_total}
 use Rattle.snap_session.proofs.opened.totals_of.Given as goal
 
-abbrev pub invariant-loop-name : goal.invariant-loop-name
-invariant-loop-name g l = l.totals ≡ totals_of l.world (take l.name-index l.names)
+abbrev pub invariant-loop-namespace : goal.invariant-loop-namespace
+invariant-loop-namespace g l = l.totals ≡ filter_map (named_total l.world) (take l.namespace-index l.world.state.namespaces)

@@ -3,5 +3,5 @@ use Rattle.std.proofs.lemmas.Grind.{common_steps}
 use Rattle.std.proofs.lemmas.List.Elements.{filter_map-append}
 use Rattle.snap_session.proofs.quota.quotas.Goals as goal
 
-pub loop-name-preserved : goal.loop-name-preserved
-loop-name-preserved g c = grind (arith, common_steps, filter_map-append)
+pub loop-namespace-preserved : goal.loop-namespace-preserved
+loop-namespace-preserved g c = grind (arith, common_steps, filter_map-append)

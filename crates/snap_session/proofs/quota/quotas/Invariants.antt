@@ -1,7 +1,7 @@
 use Rattle.std.proofs.Common.{◌≡◌, take}
 use Rattle.std.specs.Prelude.{filter_map}
-use Rattle.snap_session.specs.Quota.{named_quota}
+use Rattle.snap_session.specs.Quota.{quota_of_place}
 use Rattle.snap_session.proofs.quota.quotas.Given as goal
 
-abbrev pub invariant-loop-name : goal.invariant-loop-name
-invariant-loop-name g l = l.found ≡ filter_map (named_quota l.world) (take l.name-index l.names)
+abbrev pub invariant-loop-namespace : goal.invariant-loop-namespace
+invariant-loop-namespace g l = l.found ≡ filter_map (quota_of_place l.world) (take l.namespace-index l.world.state.namespaces)

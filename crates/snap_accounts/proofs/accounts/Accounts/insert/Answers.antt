@@ -1,4 +1,4 @@
-use Rattle.std.proofs.Common.{◌≡◌, ◌<◌, ◌+◌, ℕ, List, length, set, true, refl, sym, ap, ◌∙◌, subst, arith}
+use Rattle.std.proofs.Common.{◌≡◌, ◌<◌, ◌+◌, ℕ, List, set, true, refl, sym, ap, ◌∙◌, subst, arith}
 use Rattle.snap_usage.specs.declared.usage.Usage.{Usage}
 use Rattle.snap_usage.specs.Counted.{covers}
 use Rattle.snap_ledger.specs.States.{ChargeState, plus}
@@ -7,7 +7,7 @@ use Rattle.snap_record.specs.declared.record.Content.TheVariants.{Active}
 use Rattle.snap_call.specs.declared.state.State.{State}
 use Rattle.snap_call.specs.Good.{Good}
 use Rattle.snap_call.specs.Records.{charge_of, active_at, has_key, open_count, with_record}
-use Rattle.snap_call.specs.State.{limit_at, is_base, is_too_deep}
+use Rattle.snap_call.specs.State.{limit_at, is_base, is_taken_at, is_too_deep}
 use Rattle.snap_call.specs.Step.{one, new_record}
 use Rattle.snap_accounts.proofs.Accounting.{accounts_same, few-covered}
 use Rattle.snap_accounts.proofs.Prepared.{accounts_prepared, charge_in-free, open-most, open_count-prepared}
@@ -63,7 +63,7 @@ invariant_of-self-2 g c =
     let total : c.total.result ≡ charge_of place s.records = c.total.ensures.total ∙ ap (λ (u : State). charge_of place u.records) (sym view) in
     let after : c.plus-after.result ≡ plus (charge_of place s.records) one = c.plus-after.ensures ∙ (λ i. plus (total i) (c.one.ensures i)) in
     accounts_prepared s c.self.inside.totals c.set.new.self c.self.inside.slots c.issue.new.self c.self.inside.opened place slot key parent labels c.insert.new.self c.self.invariant
-    (subst (λ (u : State). place < length u.namespaces) (sym view) c.requires.vacant.site.inside)
+    (ap (λ (u : State). is_taken_at place u.namespaces) view ∙ c.requires.vacant.site.taken)
     (ap (λ (u : State). has_key place key u.records) view ∙ c.requires.vacant.site.new)
     (ap (λ (u : State). is_base place parent u.records) view ∙ c.requires.vacant.site.base)
     (ap (λ (u : State). is_too_deep u.ancestors place parent u.records) view ∙ c.requires.vacant.site.deep)

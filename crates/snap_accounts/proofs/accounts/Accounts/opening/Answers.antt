@@ -1,5 +1,5 @@
-use Rattle.std.proofs.Common.{◌≡◌, ℕ, ◌<◌, List, length, true, Some, refl, sym, ap, ◌∙◌, subst, arith}
-use Rattle.std.specs.Prelude.{slice_get, replicate}
+use Rattle.std.proofs.Common.{◌≡◌, ℕ, ◌<◌, List, length, true, true≢false, Some, refl, sym, ap, ◌∙◌, subst, arith}
+use Rattle.std.specs.Prelude.{slice_get, replicate, Result, Ok, Err, IfOk, IsErr}
 use Rattle.std.proofs.lemmas.List.{length-replicate, get_or-replicate}
 use Rattle.std.proofs.lemmas.Option.{slice_get-get_or}
 use Rattle.snap_usage.specs.declared.usage.Usage.{Usage}
@@ -31,8 +31,16 @@ accounts_opened config us cs formed is_us is_cs = record {
   open_are = refl;
 }
 
+-- what a refusal of memory answers
+if_err : {T E : Type 0} (P : T → Type 0) (r : Result T E) → IsErr r → IfOk r P
+if_err P (Ok x) is = absurd (true≢false (sym is))
+if_err P (Err e) is = tt
+
+pub returns-in_err-state : goal.returns-in_err-state
+returns-in_err-state g c = if_err _ c.from_residual-in_err-state.result c.from_residual-in_err-state.ensures.0
+
 pub invariant_of-result : goal.invariant_of-result
 invariant_of-result g c =
     let counted = c.in_ok-totals.ensures ∙ ap (λ (n : ℕ). replicate n no_usage) c.len.ensures in
-    subst (λ (s : State). AreAccounts s c.in_ok-totals.totals c.in_ok-slots.slots 0) (sym c.opening.ensures.opening)
+    subst (λ (s : State). AreAccounts s c.in_ok-totals.totals c.in_ok-slots.slots 0) (sym c.in_ok-state.ensures.opening)
     (accounts_opened c.args.config c.in_ok-totals.totals c.in_ok-slots.slots c.requires.config counted c.in_ok-slots.ensures)

@@ -4,6 +4,7 @@ use Rattle.snap_record.specs.declared.record.Record.{Record}
 use Rattle.snap_call.specs.Records.{active_at}
 use Rattle.snap_call.proofs.Committing.{has_named-records, state_committed, taken_back}
 use Rattle.snap_call.proofs.Lists.{active_at-all, some_same}
+use Rattle.snap_call.proofs.Keeping.{placed_below}
 use Rattle.snap_call.proofs.state.State.commit.Goals as goal
 
 pub name_in-requires-clause-named : goal.name_in-requires-clause-named
@@ -30,4 +31,4 @@ pub name_in-requires-clause-place : goal.name_in-requires-clause-place
 name_in-requires-clause-place c =
     let a = c.in-Some.active.now in
     let e : active_at c.args.slot c.args.self.now.records ≡ Some a = sym c.active_at.ensures ∙ ap option_copied c.in-Some.is in
-    active_at-all (λ (t : Record). t.namespace < length c.args.self.now.namespaces) c.args.slot c.args.self.now.records a e c.requires.good.placed
+    active_at-all (λ (t : Record). t.namespace < length c.args.self.now.namespaces) c.args.slot c.args.self.now.records a e (placed_below c.args.self.now c.requires.good)
