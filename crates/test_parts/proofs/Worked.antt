@@ -1,5 +1,5 @@
 -- What the contract of `history` says of the worked round.
-use Rattle.std.proofs.Common.{◌≡◌, ℕ, List, [], ◌∷◌, Option, Some, map, refl, ap, subst, arith}
+use Rattle.std.proofs.Common.{◌≡◌, List, [], ◌∷◌, length, Option, None, Some, map, refl, ap, subst, arith}
 use Rattle.std.specs.Prelude.{Result, Ok, Err, IfOk}
 use Rattle.snap_usage.specs.declared.usage.Usage.{Usage}
 use Rattle.snap_call.specs.declared.config.Config.{Config}
@@ -7,13 +7,13 @@ use Rattle.snap_call.specs.declared.entry.Entry.{Entry}
 use Rattle.snap_call.specs.declared.state.State.{State}
 use Rattle.snap_call.specs.Good.{Good}
 use Rattle.snap_call.specs.Journal.{Replays}
-use Rattle.snap_call.specs.Records.{charge_of, default_slots, lowest_free}
-use Rattle.snap_call.specs.State.{opening, place_of}
+use Rattle.snap_call.specs.Records.{default_slots, lowest_free}
+use Rattle.snap_call.specs.State.{opening}
 use Rattle.snap_call.specs.Step.{step}
 use Rattle.snap_call.proofs.Kept.{good_opening}
 use Rattle.snap_history.specs.Changes.{no_shares}
-use Rattle.snap_history.specs.History.{history, history_page}
-use Rattle.snap_history.specs.Open.{shares_of}
+use Rattle.snap_history.specs.History.{history_page, history_since, last_made, namespace_charge}
+use Rattle.snap_history.specs.Open.{namespace_shares}
 use Rattle.snap_history.specs.declared.info.EntryInfo.{EntryInfo}
 use Rattle.test_parts.specs.Worked.{charged, made, opened, small_round, usage}
 
@@ -33,12 +33,12 @@ replays = (omega arith, refl, (tt, refl, (refl, refl, refl)))
 -- what the contract says of a page of one entry after the first, where `a` is charged so much after the entries
 abbrev pub Told : List Entry → List (Option Usage) → Usage → List EntryInfo → Type 0
 Told es shares now page =
-    (s t : State) (place : ℕ) → Good s → shares ≡ shares_of s.slots place s.records → Replays s es t → place_of (97 ∷ []) t.namespaces ≡ Some place → t.entries ≡ 3 → charge_of place t.records ≡ now → page ≡ history_page 1 1 (history place s es)
+    (s t : State) → Good s → length shares ≡ s.slots → (last_made (97 ∷ []) es ≡ None → shares ≡ namespace_shares (97 ∷ []) s) → Replays s es t → t.entries ≡ 3 → namespace_charge (97 ∷ []) t ≡ now → page ≡ history_page 1 1 (history_since (97 ∷ []) s es)
 
 -- that entry is the prepare, after which 1/1 is charged
 first_charge : (page : List EntryInfo) → Told small_round (no_shares default_slots) (usage 4 3) page → map (λ (info : EntryInfo). info.charge) page ≡ Some (usage 1 1) ∷ []
 unfolding lowest_free
-first_charge page is = ap (map (λ (info : EntryInfo). info.charge)) (is start end 0 (good_opening config refl) refl replays refl refl refl)
+first_charge page is = ap (map (λ (info : EntryInfo). info.charge)) (is start end (good_opening config refl) refl (λ none. refl) replays refl refl)
 
 pub page_told : {E : Type 0} (es : List Entry) (shares : List (Option Usage)) (now : Usage) (r : Result (List EntryInfo) E) → es ≡ small_round → shares ≡ no_shares default_slots → now ≡ usage 4 3 → IfOk r (Told es shares now) → IfOk r (λ page. map (λ (info : EntryInfo). info.charge) page ≡ Some (usage 1 1) ∷ [])
 page_told es shares now (Ok page) same none charged is =

@@ -1,5 +1,5 @@
 // What a namespace is charged after each of its entries: a small round, whose figure follows from the contract
-// of `history` alone, and a round of two namespaces.
+// of `history` alone, and a round of two namespaces and of one that is made in it.
 ghost use Rattle.std.specs.Prelude.{◌≡◌, ◌∷◌, [], Some, IfOk, map};
 ghost use Rattle.snap_call.specs.declared.call.Call.TheVariants as calls;
 ghost use Rattle.snap_call.specs.declared.reply.Reply.TheVariants as replies;
@@ -90,10 +90,16 @@ fn first_page(alloc: Global) -> Result<Sequence<EntryInfo>, AllocError>
     )
 }
 
-// Entries 101 to 109. That of the session and those on `b` are none of `a`, which was charged 10/10 before them.
+// Entries 101 to 111. That of the session and those on `b` and `z` are none of `a`, which was charged 10/10 before them.
+// The last one makes `z`.
 fn round<R: Abort>(rt: &R, alloc: Global) -> Vec<SharedEntry> {
     let a = prepare(alloc, "a").expect(rt, "memory for a call");
     let b = prepare(alloc, "b").expect(rt, "memory for a call");
+    let z = prepare(alloc, "z").expect(rt, "memory for a call");
+    let create = Call::NamespaceCreate {
+        namespace: text(rt, alloc, "z"),
+        limit: usage(9, 9),
+    };
     let remove = Call::Remove {
         namespace: text(rt, alloc, "a"),
         key: text(rt, alloc, "old"),
@@ -122,6 +128,8 @@ fn round<R: Abort>(rt: &R, alloc: Global) -> Vec<SharedEntry> {
         (Call::Trim { slot, id }, Count(usage(3, 2)), Trimmed),
         (Call::Discard { slot, id }, Nothing, Discarded(usage(3, 2))),
         (remove, Nothing, Removed(usage(4, 4))),
+        (z, Nothing, Refused(Refusal::NoNamespace)),
+        (create, Nothing, Reply::Done),
     ] {
         let entry = shared(alloc, call, given, reply).expect(rt, "memory for an entry");
         entries.push(entry).expect(rt, "memory for entries");
@@ -152,7 +160,7 @@ fn the_charge_after_each_entry(rt: HostRuntime) {
     are(&rt, alloc, &page, &[(2, CallKind::Prepare, usage(1, 1))]);
     let entries = round(&rt, alloc);
     let held = Shares::none(alloc, DEFAULT_SLOTS).expect(&rt, "memory for shares");
-    assert_eq!(rt; entries.len(), 9);
+    assert_eq!(rt; entries.len(), 11);
     let rows = [
         (102, CallKind::Prepare, usage(11, 11)),
         (104, CallKind::Charge, usage(15, 13)),
@@ -164,9 +172,16 @@ fn the_charge_after_each_entry(rt: HostRuntime) {
     for (namespace, now, after, most, wanted) in [
         ("a", usage(6, 6), 0, 64, rows.as_slice()),
         ("a", usage(6, 6), 102, 2, &rows[1..3]),
-        ("z", usage(0, 0), 0, 64, &[]),
+        (
+            "z",
+            usage(0, 0),
+            0,
+            64,
+            &[(111, CallKind::NamespaceCreate, usage(0, 0))],
+        ),
+        ("y", usage(0, 0), 0, 64, &[]),
     ] {
-        let page = history(alloc, &entries, 109, namespace, &held, now, after, most);
+        let page = history(alloc, &entries, 111, namespace, &held, now, after, most);
         are(&rt, alloc, &page.expect(&rt, "memory for a page"), wanted);
     }
 }

@@ -131,6 +131,12 @@ impl<'a, N: RoundName, R: Wait> Round<'a, N, R> {
             Call::SetLimit { namespace, limit } => {
                 store.set_limit(rt, session, namespace.as_str(), *limit)?;
             }
+            Call::NamespaceCreate { namespace, limit } => {
+                store.namespace_create(rt, session, namespace.as_str(), *limit)?;
+            }
+            Call::NamespaceRemove { namespace } => {
+                store.namespace_remove(rt, session, namespace.as_str())?;
+            }
             Call::LeaseCreate {
                 namespace,
                 lease,

@@ -1,4 +1,5 @@
 mod Slots
+mod Spaces
 mod FirstLayer
 mod FirstTape
 mod FirstRound

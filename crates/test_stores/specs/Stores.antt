@@ -19,6 +19,14 @@ new_store = opening one_namespace
 abbrev pub with_view : State
 with_view = (step new_store (calls.View (codes "a") (codes "q") [] []) Nothing).0
 
+-- the store after its first call, which has made the namespace b
+abbrev pub with_second : State
+with_second = (step new_store (calls.NamespaceCreate (codes "b") (record { blocks = 10; inodes = 10 })) Nothing).0
+
+-- that store after its second call, the snapshot k of nothing in b
+abbrev pub with_snapshot : State
+with_snapshot = (step with_second (calls.Prepare (codes "b") (codes "k") [] []) Nothing).0
+
 -- a new store of one slot
 abbrev pub with_one_slot : State
 with_one_slot = opening (record one_namespace { slots = 1 })

@@ -19,6 +19,8 @@ mod leases;
 #[cfg(test)]
 mod life;
 #[cfg(test)]
+mod namespaces;
+#[cfg(test)]
 mod next_round;
 #[cfg(test)]
 mod plain_values;

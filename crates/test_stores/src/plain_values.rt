@@ -32,7 +32,7 @@ fn opened<R: Abort>(rt: &R, alloc: Global) -> State {
     config.root = text(rt, alloc, "/r");
     let is_valid = config.is_valid();
     prove!(is_valid);
-    let state = State::opening(alloc, config);
+    let state = State::opening(alloc, config).expect(rt, "memory for namespaces");
     let (first, none) = (state.place_of("a"), state.place_of("z"));
     prove!(first == Some(0) && none == None);
     let limit = state.limit_at(0);
