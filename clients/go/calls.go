@@ -227,6 +227,25 @@ func (s *Store) Limit(ctx context.Context, namespace string, limit Usage, option
 	return s.call(ctx, "limit", given, options, nil)
 }
 
+// NamespaceCreate makes a namespace with its limit, blocks of 4096 bytes and inodes, each 0 to 2^40. It has no snapshot, no
+// lease and no charge, whatever an earlier one of this name had.
+//
+// It is ErrBadArgument where the name isn't 1 to 255 bytes without NUL, or a quantity is above 2^40, else
+// ErrNamespaceExists where the store has it, and else ErrTooManyNamespaces where the store has 4096. After a refusal the
+// namespaces are as they were.
+func (s *Store) NamespaceCreate(ctx context.Context, namespace string, limit Usage, options ...Option) error {
+	given := fields{"ns": namespace, "blocks": limit.Blocks, "inodes": limit.Inodes}
+	return s.call(ctx, "namespace_create", given, options, nil)
+}
+
+// NamespaceRemove removes a namespace and its limit. A call on it is ErrNoNamespace then, and no question tells it.
+//
+// It is ErrNoNamespace where the store doesn't have it, and else ErrNotEmpty where it has a snapshot of any kind or a lease.
+// After a refusal it is as it was.
+func (s *Store) NamespaceRemove(ctx context.Context, namespace string, options ...Option) error {
+	return s.call(ctx, "namespace_remove", fields{"ns": namespace}, options, nil)
+}
+
 // Sweep takes the leases that have ended at a moment, and the committed snapshots that nothing in use stands on.
 func (s *Store) Sweep(ctx context.Context, namespace string, now uint64, options ...Option) (Swept, error) {
 	var answer Swept
@@ -425,8 +444,8 @@ func (s *Store) Diff(ctx context.Context, namespace, key, after string, max int)
 	return answer.Changes, err
 }
 
-// Journal tells a page of the entries of a namespace, or of all entries of the round where it is empty, in order: those
-// after a number, and of these the first max, 1 to 64, or 64 where it is 0.
+// Journal tells a page of the entries of a namespace since it was last made, or of all entries of the round where it is
+// empty, in order: those after a number, and of these the first max, 1 to 64, or 64 where it is 0.
 func (s *Store) Journal(ctx context.Context, namespace string, after uint64, max int) ([]Entry, error) {
 	return s.journal(ctx, namespace, fields{"after": after}, max)
 }

@@ -40,8 +40,12 @@ func (r Reason) Error() string { return string(r) }
 const (
 	// ErrBadArgument: a key, name, lease, label, limit or page is malformed, or a field of `open`.
 	ErrBadArgument Reason = "BadArgument"
-	// ErrNoNamespace: the store was opened without this namespace.
+	// ErrNoNamespace: the store doesn't have this namespace.
 	ErrNoNamespace Reason = "NoNamespace"
+	// ErrNamespaceExists: the store has a namespace of this name.
+	ErrNamespaceExists Reason = "NamespaceExists"
+	// ErrTooManyNamespaces: the store has 4096 namespaces, and can have no more.
+	ErrTooManyNamespaces Reason = "TooManyNamespaces"
 	// ErrNotFound: there is no such snapshot or parent, or no such name in a lease; of a file, nothing is seen at a
 	// path (ENOENT).
 	ErrNotFound Reason = "NotFound"
@@ -104,7 +108,7 @@ const (
 	ErrIsDir Reason = "IsDir"
 	// ErrExists: something is at the path (EEXIST).
 	ErrExists Reason = "Exists"
-	// ErrNotEmpty: the directory has entries (ENOTEMPTY).
+	// ErrNotEmpty: the directory has entries (ENOTEMPTY), or, from the book, the namespace has a snapshot or a lease.
 	ErrNotEmpty Reason = "NotEmpty"
 	// ErrCrossDevice: the directory is, whole or in part, of a lower layer (EXDEV).
 	ErrCrossDevice Reason = "CrossDevice"

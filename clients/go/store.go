@@ -38,7 +38,7 @@ type Config struct {
 	Program string
 	// Root is the directory that mounts name.
 	Root string
-	// Namespaces are the namespaces with their limits.
+	// Namespaces are the namespaces that it begins with, with their limits: 4096 at most, and maybe none.
 	Namespaces map[string]Usage
 	// Journal is the most entries of the journal's first round, or the default where it is 0.
 	Journal uint64

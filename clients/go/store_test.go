@@ -283,6 +283,61 @@ func TestJournalOfTheRound(t *testing.T) {
 	}
 }
 
+// A namespace is made, holds a snapshot or a lease, and is removed once it has none. The log has it all.
+func TestNamespaces(t *testing.T) {
+	config := loggedConfig(logPath(t))
+	config.Namespaces = nil
+	store := newStoreOf(t, config)
+	isRefused := func(err error, reason Reason) {
+		t.Helper()
+		isError(t, err, reason)
+		var refusal *Refusal
+		if !errors.As(err, &refusal) || refusal.From != "book" {
+			t.Errorf("%v: not from book", err)
+		}
+	}
+	equal(t, must[map[string]Quota](t)(store.Quotas(ctx)), map[string]Quota{})
+	isRefused(store.NamespaceCreate(ctx, "", Usage{1, 1}), ErrBadArgument)
+	isRefused(store.NamespaceCreate(ctx, "a", Usage{1<<40 + 1, 1}), ErrBadArgument)
+	isRefused(store.NamespaceCreate(ctx, "a", Usage{1, 1<<40 + 1}), ErrBadArgument)
+	isRefused(store.NamespaceRemove(ctx, "a"), ErrNoNamespace)
+	granted(t, store.NamespaceCreate(ctx, "a", Usage{10, 1 << 40}))
+	isRefused(store.NamespaceCreate(ctx, "a", Usage{1, 1}), ErrNamespaceExists)
+	equal(t, must[Quota](t)(store.Quota(ctx, "a")).Limit, Usage{10, 1 << 40})
+	must[Prepared](t)(store.Prepare(ctx, "a", "k", ""))
+	isRefused(store.NamespaceRemove(ctx, "a"), ErrNotEmpty)
+	must[Usage](t)(store.Discard(ctx, "a", "k"))
+	granted(t, store.LeaseCreate(ctx, "a", "lease"))
+	granted(t, store.NamespaceCreate(ctx, "b", Usage{2, 3}))
+	granted(t, store.Close())
+	store = reopen(t, config.Log)
+	isRefused(store.NamespaceRemove(ctx, "a"), ErrNotEmpty)
+	granted(t, store.LeaseRelease(ctx, "a", "lease"))
+	granted(t, store.NamespaceRemove(ctx, "a"))
+	_, err := store.Prepare(ctx, "a", "k", "")
+	isRefused(err, ErrNoNamespace)
+	b := Quota{Limit: Usage{2, 3}, Free: Usage{2, 3}}
+	equal(t, must[map[string]Quota](t)(store.Quotas(ctx)), map[string]Quota{"b": b})
+	isError(t, store.NamespaceRemove(ctx, "b", WithLease("x")), ErrOption)
+	granted(t, store.Close())
+	equal(t, must[map[string]Quota](t)(reopen(t, config.Log).Quotas(ctx)), map[string]Quota{"b": b})
+}
+
+// A store has as many as 4096 namespaces, and the place of a removed one is another's.
+func TestMostNamespaces(t *testing.T) {
+	store := newStoreOf(t, Config{Program: program(), Root: "/r"})
+	for number := 0; number < 4096; number++ {
+		granted(t, store.NamespaceCreate(ctx, fmt.Sprint(number), Usage{1, 1}))
+	}
+	isError(t, store.NamespaceCreate(ctx, "more", Usage{1, 1}), ErrTooManyNamespaces)
+	granted(t, store.NamespaceRemove(ctx, "7"))
+	granted(t, store.NamespaceCreate(ctx, "more", Usage{1, 1}))
+	entries := must[[]Entry](t)(store.Journal(ctx, "more", 0, 0))
+	if len(entries) != 1 || entries[0].Call != "namespace_create" {
+		t.Errorf("%+v", entries)
+	}
+}
+
 func TestRefusals(t *testing.T) {
 	store := newStore(t, Usage{100, 100})
 	commitEmpty(t, store, "base", "")

@@ -82,6 +82,25 @@ class Logs(unittest.TestCase):
                 store.create("a", "sealed", "/g")
             self.assertEqual(store.prepare("a", "next", "base").id, 5)
 
+    def test_namespaces(self) -> None:
+        """Those that were made are there, and those that were removed aren't."""
+        with open_store(log=self.log) as store:
+            store.namespace_create("b", 5, 6)
+            store.prepare("b", "k", "")
+            store.namespace_create("c", 1, 1)
+            store.namespace_remove("c")
+            quotas, journal = store.quotas(), store.journal()
+        with self.reopen() as store:
+            self.assertEqual(set(quotas), {"a", "b"})
+            self.assertEqual(store.quotas(), quotas)
+            self.assertEqual(store.journal(), journal)
+            with self.assertRaises(pibroulez.NotEmpty):
+                store.namespace_remove("b")
+            store.discard("b", "k")
+            store.namespace_remove("b")
+        with self.reopen() as store:
+            self.assertEqual(set(store.quotas()), {"a"})
+
     def test_is_a_script(self) -> None:
         """Its lines are commands of a script: of the calls, without lookups and what made no entry."""
         with open_store(log=self.log) as store:

@@ -453,13 +453,49 @@ class Refusals(unittest.TestCase):
             self.assert_refused(pibroulez.NotFound, "book", lambda: store.lease_drop("a", "lease", "child"))
             self.assertEqual(store.remove("a", "child"), Usage(1, 1))
 
+    def test_namespaces(self) -> None:
+        """A namespace is made, holds a snapshot or a lease, and is removed once it has none."""
+        with open_store() as store:
+            for name, blocks, inodes in (("", 1, 1), ("b", (1 << 40) + 1, 1), ("b", 1, (1 << 40) + 1)):
+                self.assert_refused(
+                    pibroulez.BadArgument, "book", lambda: store.namespace_create(name, blocks, inodes)
+                )
+            self.assert_refused(pibroulez.NamespaceExists, "book", lambda: store.namespace_create("a", 1, 1))
+            self.assert_refused(pibroulez.NoNamespace, "book", lambda: store.namespace_remove("b"))
+            store.namespace_create("b", 10, 1 << 40)
+            self.assertEqual(store.quota("b").limit, Usage(10, 1 << 40))
+            self.assertEqual(set(store.report().totals), {"a", "b"})
+            store.prepare("b", "k", "")
+            self.assert_refused(pibroulez.NotEmpty, "book", lambda: store.namespace_remove("b"))
+            store.discard("b", "k")
+            store.lease_create("b", "lease")
+            self.assert_refused(pibroulez.NotEmpty, "book", lambda: store.namespace_remove("b"))
+            store.lease_release("b", "lease")
+            store.namespace_remove("b")
+            self.assert_refused(pibroulez.NoNamespace, "book", lambda: store.prepare("b", "k", ""))
+            self.assertEqual(set(store.quotas()), {"a"})
+            store.namespace_create("b", 2, 2)
+            self.assertEqual([entry.call for entry in store.journal("b")], ["namespace_create"])
+
+    def test_no_namespaces(self) -> None:
+        """A store is opened with none, and has as many as 4096."""
+        with Store("/r", {}, program=PROGRAM) as store:
+            self.assertEqual(store.report().totals, {})
+            for number in range(4096):
+                store.namespace_create(str(number), 1, 1)
+            self.assert_refused(pibroulez.TooManyNamespaces, "book", lambda: store.namespace_create("more", 1, 1))
+            store.namespace_remove("7")
+            store.namespace_create("more", 1, 1)
+            self.assertEqual(len(store.quotas()), 4096)
+
     def test_open(self) -> None:
         self.assert_refused(
             pibroulez.BadArgument, "book", lambda: Store("r", {"a": (1, 1)}, program=PROGRAM)
         )
-        with self.assertRaises(pibroulez.BadArgument) as refused:
-            Store("/r", {"": (1, 1)}, program=PROGRAM)
-        self.assertEqual(refused.exception.field, "namespaces")
+        for namespaces in ({"": (1, 1)}, {f"n{number}": (1, 1) for number in range(4097)}):
+            with self.subTest(len(namespaces)), self.assertRaises(pibroulez.BadArgument) as refused:
+                Store("/r", namespaces, program=PROGRAM)
+            self.assertEqual(refused.exception.field, "namespaces")
         for most in (0, 501):
             with self.subTest(most), self.assertRaises(pibroulez.BadArgument) as refused:
                 open_store(ancestors=most)

@@ -171,7 +171,8 @@ type Agent struct {
 }
 
 // New begins the work of an agent. It asks the store, and not etcd: that is asked from then on, also where it is away now.
-// The error is ErrNoIdentity where the store wasn't opened with Namespaces, ErrBadConfig, or that of the store.
+// The error is ErrNoIdentity where the store wasn't opened with Namespaces, ErrBadConfig, also where it has more than
+// MostTenants, or that of the store.
 func New(ctx context.Context, config Config) (*Agent, error) {
 	if err := config.complete(); err != nil {
 		return nil, err
@@ -183,6 +184,9 @@ func New(ctx context.Context, config Config) (*Agent, error) {
 	store, tenants, err := identityOf(quotas)
 	if err != nil {
 		return nil, err
+	}
+	if len(tenants) > MostTenants {
+		return nil, fmt.Errorf("%w: %d tenants, and %d are the most", ErrBadConfig, len(tenants), MostTenants)
 	}
 	var bits [8]byte
 	if _, err := rand.Read(bits[:]); err != nil {

@@ -11,12 +11,16 @@ import (
 )
 
 // The identity of a store is a namespace of it, of this beginning and 32 hexadecimal digits, and with a limit of 0/0, so
-// that it never has a snapshot. It is in the first line of the log, which makes the store: no store is without it, none
-// gets another one, and it goes where the log goes.
+// that it never has a snapshot. It is in the first line of the log, which makes the store: no store is made without it, and it
+// goes where the log goes. No agent takes a store from which it was removed, or that has two.
 const identityBegin = "pibroulez-store-"
 
-// Namespaces are what a new store of a cluster is opened with: each tenant, with a limit of 0/0, and a new identity. A
-// store has at most 64 namespaces, so at most 63 tenants.
+// MostTenants is how many tenants a store of a cluster may have: after a restore of etcd it registers all of them and itself
+// by one transaction, which has at most mostOps operations.
+const MostTenants = mostOps - 1
+
+// Namespaces are what a new store of a cluster is opened with: each tenant, with a limit of 0/0, and a new identity. There
+// may be at most MostTenants.
 func Namespaces(tenants ...string) (map[string]Usage, error) {
 	var bits [16]byte
 	if _, err := rand.Read(bits[:]); err != nil {

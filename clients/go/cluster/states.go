@@ -102,13 +102,15 @@ var (
 	ErrBusy = errors.New("the tenant's record was changed each time")
 )
 
-// ErrBadConfig is the error of a Config without what is needed, or with a Start that there isn't.
+// ErrBadConfig is the error of a Config without what is needed, with a Start that there isn't, or of a store with more than
+// MostTenants.
 var ErrBadConfig = errors.New("the configuration is not one")
 
 // ErrClosed is the error of each call once the agent is closed.
 var ErrClosed = errors.New("the agent is closed")
 
-// ErrNoIdentity is the error of a store that wasn't opened with Namespaces, so that its log has no identity.
+// ErrNoIdentity is the error of a store without an identity, or with several: one that wasn't opened with Namespaces, or
+// where such a namespace was made or removed since.
 var ErrNoIdentity = errors.New("the store's log has no identity, or several")
 
 // A BadRecord is a key of etcd whose value isn't of this protocol. Nothing is written over it.

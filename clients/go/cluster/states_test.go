@@ -431,6 +431,15 @@ func TestIdentity(t *testing.T) {
 	config.Store = plain
 	_, err := New(ctx, config)
 	isError(t, err, ErrNoIdentity)
+	var many []string
+	for number := 0; number <= MostTenants; number++ {
+		many = append(many, fmt.Sprint("t", number))
+	}
+	full := must(OpenOrNew(ctx, pibroulez.Config{Program: program(), Root: "/r"}, many...))(t)
+	defer full.Close()
+	config.Store = full
+	_, err = New(ctx, config)
+	isError(t, err, ErrBadConfig)
 	_, err = Namespaces(identityBegin + "x")
 	isError(t, err, ErrNoIdentity)
 	first, second := must(Namespaces("a"))(t), must(Namespaces("a"))(t)

@@ -42,6 +42,25 @@ func limit(ctx context.Context, store *pibroulez.Store, given words) (answer, er
 	return quota(ctx, store, given)
 }
 
+func tenantAdd(ctx context.Context, store *pibroulez.Store, given words) (answer, error) {
+	usage, err := usageOf(given.rest[2])
+	if err != nil {
+		return answer{}, err
+	}
+	if err := store.NamespaceCreate(ctx, given.rest[1], usage); err != nil {
+		return answer{}, err
+	}
+	return quota(ctx, store, given)
+}
+
+func tenantRemove(ctx context.Context, store *pibroulez.Store, given words) (answer, error) {
+	name := given.rest[1]
+	if err := store.NamespaceRemove(ctx, name); err != nil {
+		return answer{}, err
+	}
+	return answer{value: map[string]string{"removed": name}, words: fmt.Sprintf("removed %s\n", told.Name(name))}, nil
+}
+
 func tree(ctx context.Context, store *pibroulez.Store, given words) (answer, error) {
 	nodes, err := store.Tree(ctx, given.rest[1])
 	it := answer{value: orEmpty(nodes), columns: []string{"SNAPSHOT", "KIND", ">ID", ">BLOCKS", ">INODES", ">CHILDREN"}}

@@ -3,6 +3,7 @@ package main
 import (
 	"context"
 	"encoding/json"
+	"errors"
 	"fmt"
 	"io"
 	"os"
@@ -190,6 +191,20 @@ func TestChanges(t *testing.T) {
 	quota, err := h.store.Quota(ctx, "a")
 	granted(t, err)
 	equal(t, quota.Limit, usage(80, 40))
+	out, _, status = h.run(t, "tenant-add", "c\n", "7/5")
+	if status != 0 || !strings.Contains(out, "\n\"c\\n\" ") || !strings.Contains(out, "     7 ") {
+		t.Errorf("%d: %s", status, out)
+	}
+	quota, err = h.store.Quota(ctx, "c\n")
+	granted(t, err)
+	equal(t, quota.Limit, usage(7, 5))
+	out, _, status = h.run(t, "tenant-remove", "c\n")
+	equal(t, out, "removed \"c\\n\"\n")
+	equal(t, status, 0)
+	_, err = h.store.Quota(ctx, "c\n")
+	if !errors.Is(err, pibroulez.ErrNoNamespace) {
+		t.Error(err)
+	}
 	out, _, status = h.run(t, "sweep", "a", "8")
 	equal(t, out, "unused\nremoved 1 snapshots with 1/1, and 1 leases\n")
 	equal(t, status, 0)
@@ -211,6 +226,10 @@ func TestRefusals(t *testing.T) {
 		want   string
 	}{
 		{[]string{"limit", "a", "1/1"}, 1, "BelowCharge"},
+		{[]string{"tenant-add", "a", "1/1"}, 1, "NamespaceExists"},
+		{[]string{"tenant-add", "c", "1"}, 2, `"1" is no BLOCKS/INODES`},
+		{[]string{"tenant-remove", "a"}, 1, "NotEmpty"},
+		{[]string{"tenant-remove", "none"}, 1, "NoNamespace"},
 		{[]string{"tree", "none"}, 1, "NoNamespace"},
 		{[]string{"--", "tree", "--json"}, 1, "NoNamespace"},
 		{[]string{"du", "a", "none"}, 1, "NotFound"},

@@ -26,6 +26,10 @@ func init() {
 	commands = []command{
 		{"quota", "[TENANT]", nil, false, []string{"what each tenant may take and takes"}, onStore(quota)},
 		{"limit", "TENANT BLOCKS/INODES", nil, false, []string{"sets a tenant's limit"}, onStore(limit)},
+		{"tenant-add", "NAME BLOCKS/INODES", nil, false, []string{
+			"makes a tenant with its limit; the daemon's file has to name it too, or it goes when that is read",
+		}, onStore(tenantAdd)},
+		{"tenant-remove", "TENANT", nil, false, []string{"removes a tenant that has no snapshot and no lease"}, onStore(tenantRemove)},
 		{"tree", "TENANT", nil, false, []string{"its snapshots, each below its parent, with what is charged for it alone"}, onStore(tree)},
 		{"du", "TENANT KEY [PATH]", nil, false, []string{"what is taken by what is seen at a path of a snapshot (/)"}, onStore(diskUsage)},
 		{"diff", "TENANT KEY", nil, false, []string{"what a snapshot's layer changes: A added, C changed, D removed"}, onStore(diff)},

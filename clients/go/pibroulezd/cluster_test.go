@@ -14,6 +14,7 @@ import (
 	"pibroulez.example/pibroulez"
 	"pibroulez.example/pibroulez/cluster"
 	"pibroulez.example/pibroulez/cluster/etcdtest"
+	"pibroulez.example/pibroulez/told"
 )
 
 func usage(blocks, inodes uint64) pibroulez.Usage {
@@ -167,6 +168,46 @@ func TestKeysOfAnotherFormat(t *testing.T) {
 		if !strings.HasPrefix(string(it.Key), "/pibroulez/a/") && (string(it.Key) != key || string(it.Value) != record) {
 			t.Errorf("%s is written: %s", it.Key, it.Value)
 		}
+	}
+}
+
+// In a cluster a tenant of the file is made at a start, with nothing granted, and stays as long as its store.
+func TestTenantsInCluster(t *testing.T) {
+	endpoint := etcdtest.Start(t)
+	operator := cluster.NewOperator(etcdtest.Client(t, endpoint), "")
+	p := newPlace(t)
+	clustered := strings.ReplaceAll(p.clustered(endpoint, "one", ""), "20s", "1s")
+	p.configure(t, clustered)
+	p.start(t).end(t)
+	_, err := operator.SetLimit(ctx, "b", usage(10, 10))
+	granted(t, err)
+	p.configure(t, clustered+"[tenants.b]\nblocks = 5\n")
+	it := p.start(t)
+	store := p.connect(t)
+	quotas, err := store.Quotas(ctx)
+	granted(t, err)
+	equal(t, told.Sorted(quotas)[:2], []string{"a", "b"})
+	equal(t, len(quotas), 3)
+	equal(t, quotas["b"], pibroulez.Quota{})
+	_, err = store.Prepare(ctx, "b", "k", "")
+	granted(t, err)
+	_, err = store.Discard(ctx, "b", "k")
+	granted(t, err)
+	isError(t, store.NamespaceCreate(ctx, "c", usage(1, 1)), pibroulez.ErrNotAllowed)
+	isError(t, store.NamespaceRemove(ctx, "b"), pibroulez.ErrNotAllowed)
+	p.configure(t, clustered+"[tenants.c]\n")
+	it.readAgain(t)
+	again, err := store.Quotas(ctx)
+	granted(t, err)
+	equal(t, told.Sorted(again), told.Sorted(quotas))
+	it.end(t)
+	for _, want := range []string{"tenants.b: in a cluster a tenant stays", "tenants.c: in a cluster a tenant is made at a start"} {
+		if !strings.Contains(it.said.String(), want) {
+			t.Errorf("not told: %s in %s", want, it.said)
+		}
+	}
+	if err := serve(ctx, quiet(), p.path("pibroulezd.toml"), nil); err == nil || !strings.HasSuffix(err.Error(), `also has "b"`) {
+		t.Error(err)
 	}
 }
 

@@ -121,6 +121,31 @@ func TestTenantsOfContainerd(t *testing.T) {
 	it.end(t)
 }
 
+// A store gets the door for containerd, and its tenants, at a start, and loses them there where they have nothing.
+func TestContainerdOfAStart(t *testing.T) {
+	p := newPlace(t)
+	called := namespaces.WithNamespace(ctx, "test")
+	d, _ := p.open(t, tenant("b", 1, 1))
+	granted(t, d.store.Close())
+	whole := p.containerd() + "[tenants.a]\nblocks = 3\ninodes = 3\ncontainerd = true\n"
+	for _, it := range []struct{ file, key string }{{p.containerd(), "k"}, {whole, "a/1/k"}} {
+		p.configure(t, it.file)
+		daemon := p.start(t)
+		s := p.snapshotter(t)
+		_, err := s.Prepare(called, it.key, "")
+		granted(t, err)
+		p.configure(t, "")
+		daemon.readAgain(t)
+		granted(t, s.Remove(called, it.key))
+		daemon.end(t)
+	}
+	d, _ = p.open(t, whole)
+	equal(t, d.tenants(t), []string{"a", containerd.Namespace})
+	granted(t, d.store.Close())
+	d, _ = p.open(t, "")
+	equal(t, d.tenants(t), []string{})
+}
+
 // A store that isn't that of the directories isn't served.
 func TestOtherDirectories(t *testing.T) {
 	p := newPlace(t)

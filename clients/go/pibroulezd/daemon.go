@@ -137,21 +137,10 @@ func openLog(ctx context.Context, c *configuration.Configuration) (*pibroulez.St
 	return pibroulez.OpenOrNew(ctx, config)
 }
 
-// Compares the tenants with the store's, and gives these their limits.
+// Makes the store's tenants those of the file, and gives them their limits.
 func (d *daemon) begin(ctx context.Context, c *configuration.Configuration) error {
-	quotas, err := d.store.Quotas(ctx)
-	if err != nil {
+	if err := d.beginTenants(ctx, c); err != nil {
 		return err
-	}
-	for _, name := range told.Sorted(c.Tenants) {
-		if _, isThere := quotas[name]; !isThere {
-			return fmt.Errorf("%s: tenants: %q is none of the store of %s, which has those with which it was opened", d.path, name, c.Root)
-		}
-	}
-	for _, name := range told.Sorted(quotas) {
-		if _, isThere := c.Tenants[name]; !isThere && !(c.Cluster != nil && cluster.IsIdentity(name)) {
-			return fmt.Errorf("%s: tenants: the store of %s also has %q", d.path, c.Root, name)
-		}
 	}
 	// The round may be one of another length, which an earlier configuration has said.
 	// On a full disk it is rolled where it is full.
@@ -184,10 +173,10 @@ func (d *daemon) readAgain(ctx context.Context) {
 	for _, it := range refused {
 		d.log.WithField("fault", it.Error()).Error("refused")
 	}
-	// Whoever has lost a role has lost it before the limits change.
+	// Whoever has lost a role has lost it before the tenants and their limits change.
 	d.current.Store(next)
 	if next.Cluster == nil {
-		d.limits.apply(ctx, d.store, next)
+		d.changeTenants(ctx, next)
 	}
 	if d.refusals != nil {
 		if err := d.refusals.reopen(); err != nil {

@@ -17,6 +17,8 @@ import (
 	"pibroulez.example/pibroulez"
 	"pibroulez.example/pibroulez/cluster"
 	"pibroulez.example/pibroulez/cluster/etcdtest"
+	"pibroulez.example/pibroulez/pibroulezd/door"
+	"pibroulez.example/pibroulez/told"
 )
 
 var ctx = context.Background()
@@ -59,7 +61,7 @@ func TestReadAgain(t *testing.T) {
 	it.readAgain(t)
 	it.end(t)
 	for _, want := range []string{
-		"slots: it can't change while the daemon runs: 4096 stays", "ancestors: it can't change while the daemon runs: 500 stays", "tenants.b: a tenant stays", "tenants.c: a store has the tenants",
+		"slots: it can't change while the daemon runs: 4096 stays", "ancestors: it can't change while the daemon runs: 500 stays", "\"tenant removed\" tenant=b", "\"tenant made\" limit=1/1 tenant=c",
 		":3: slots: a number from 1 to 4096 is wanted", "no such file",
 	} {
 		if !strings.Contains(it.said.String(), want) {
@@ -72,8 +74,83 @@ func TestReadAgain(t *testing.T) {
 	quotas, err := store.Quotas(ctx)
 	granted(t, err)
 	equal(t, quotas["a"].Limit, pibroulez.Usage{Blocks: 60, Inodes: 70})
-	equal(t, quotas["b"].Limit, pibroulez.Usage{Blocks: 5, Inodes: 5})
+	equal(t, quotas["c"].Limit, pibroulez.Usage{Blocks: 1, Inodes: 1})
 	equal(t, len(quotas), 2)
+}
+
+// The names of the store's tenants.
+func (d *daemon) tenants(t *testing.T) []string {
+	t.Helper()
+	quotas, err := d.store.Quotas(ctx)
+	granted(t, err)
+	return told.Sorted(quotas)
+}
+
+// Where the file is read again the store has its tenants, and no other but those with snapshots or leases. These stay
+// without members, and are gone once they have none.
+func TestTenantsChange(t *testing.T) {
+	p := newPlace(t)
+	d, said := p.open(t, tenant("a", 100, 100)+tenant("b", 5, 6)+"users = [7]\n")
+	_, err := d.store.Prepare(ctx, "b", "k", "")
+	granted(t, err)
+	granted(t, d.store.NamespaceCreate(ctx, "made", pibroulez.Usage{Blocks: 1, Inodes: 1}))
+	p.configure(t, tenant("a", 100, 100)+tenant("c", 7, 8)+"users = [7]\n")
+	d.readAgain(ctx)
+	equal(t, d.tenants(t), []string{"a", "b", "c"})
+	equal(t, d.limitOf(t, "b"), pibroulez.Usage{Blocks: 5, Inodes: 6})
+	equal(t, d.limitOf(t, "c"), pibroulez.Usage{Blocks: 7, Inodes: 8})
+	equal(t, d.rights(door.Peer{User: 7}).Namespaces, map[string]bool{"c": true})
+	if !strings.Contains(said.String(), `msg="the tenant stays, and has no members" error="namespace_remove: NotEmpty (from book)" tenant=b`) {
+		t.Errorf("it said %s", said)
+	}
+	_, err = d.store.Discard(ctx, "b", "k")
+	granted(t, err)
+	d.readAgain(ctx)
+	equal(t, d.tenants(t), []string{"a", "c"})
+
+	// A tenant that comes back has the limit of the file, and none of what it had. One that somebody else has set stays.
+	p.configure(t, tenant("b", 5, 6))
+	d.readAgain(ctx)
+	equal(t, d.tenants(t), []string{"b"})
+	equal(t, d.limitOf(t, "b"), pibroulez.Usage{Blocks: 5, Inodes: 6})
+	entries, err := d.store.Journal(ctx, "b", 0, 0)
+	granted(t, err)
+	equal(t, len(entries), 1)
+	granted(t, d.store.Limit(ctx, "b", pibroulez.Usage{Blocks: 50, Inodes: 60}))
+	d.readAgain(ctx)
+	equal(t, d.limitOf(t, "b"), pibroulez.Usage{Blocks: 50, Inodes: 60})
+	granted(t, d.store.NamespaceRemove(ctx, "b"))
+	d.readAgain(ctx)
+	equal(t, d.limitOf(t, "b"), pibroulez.Usage{Blocks: 5, Inodes: 6})
+	p.configure(t, "")
+	d.readAgain(ctx)
+	equal(t, d.tenants(t), []string{})
+	text, err := os.ReadFile(p.path("root/limits.json"))
+	granted(t, err)
+	equal(t, string(text), "{}\n")
+}
+
+// At a start the store has the tenants of the file, too. It isn't served where another one has a snapshot or a lease: all of
+// these are told.
+func TestTenantsOfAStart(t *testing.T) {
+	p := newPlace(t)
+	d, _ := p.open(t, "")
+	equal(t, d.tenants(t), []string{})
+	granted(t, d.store.Close())
+	d, _ = p.open(t, tenant("a", 1, 1)+tenant("b", 2, 2)+tenant("c", 3, 3)+tenant("d", 4, 4))
+	equal(t, d.tenants(t), []string{"a", "b", "c", "d"})
+	_, err := d.store.Prepare(ctx, "b", "k", "")
+	granted(t, err)
+	granted(t, d.store.LeaseCreate(ctx, "c", "lease"))
+	granted(t, d.store.Close())
+	_, err = open(ctx, quiet(), p.configure(t, tenant("a", 1, 1)))
+	if err == nil || !strings.HasSuffix(err.Error(), `: tenants: the store of `+p.path("root")+` also has "b", "c"`) {
+		t.Error(err)
+	}
+	equal(t, statusOf(err), failed)
+	d, _ = p.open(t, tenant("b", 2, 2)+tenant("c", 3, 3)+tenant("e", 5, 5))
+	equal(t, d.tenants(t), []string{"b", "c", "e"})
+	equal(t, d.limitOf(t, "e"), pibroulez.Usage{Blocks: 5, Inodes: 5})
 }
 
 // A store allows as many ancestors as the file says when it is opened, and as many after a start with another file.
@@ -145,7 +222,7 @@ func TestStoppedStore(t *testing.T) {
 	}
 }
 
-// Nothing is served where the file isn't there, the store has other tenants, or another daemon has it.
+// Nothing is served where the file isn't there or has faults, or another daemon has the store.
 func TestNoService(t *testing.T) {
 	p := newPlace(t)
 	log := quiet()
@@ -159,10 +236,6 @@ func TestNoService(t *testing.T) {
 	d, _ := p.open(t, tenant("a", 1, 1)+tenant("b", 1, 1))
 	serving("resource temporarily unavailable")
 	granted(t, d.store.Close())
-	p.configure(t, tenant("a", 1, 1))
-	serving(`also has "b"`)
-	p.configure(t, tenant("a", 1, 1)+tenant("b", 1, 1)+tenant("c", 1, 1))
-	serving(`"c" is none of the store`)
 	p.configure(t, "slots = true")
 	serving("slots: ")
 	ended, cancel := context.WithCancel(ctx)

@@ -41,6 +41,8 @@ func TestLines(t *testing.T) {
 	store := p.connect(t)
 	equal(t, store.PID(), it.Process.Pid)
 	granted(t, store.Limit(ctx, "b", pibroulez.Usage{Blocks: 50, Inodes: 50}))
+	granted(t, store.NamespaceCreate(ctx, "c", pibroulez.Usage{Blocks: 1, Inodes: 1}))
+	granted(t, store.NamespaceRemove(ctx, "c"))
 	_, err := store.Prepare(ctx, "a", "k", "")
 	granted(t, err)
 
@@ -48,6 +50,7 @@ func TestLines(t *testing.T) {
 	it.readAgain(t)
 	_, err = store.Discard(ctx, "a", "k")
 	isError(t, err, pibroulez.ErrNotAllowed)
+	isError(t, store.NamespaceRemove(ctx, "b"), pibroulez.ErrNotAllowed)
 	_, err = store.Stat(ctx, "a", "k")
 	granted(t, err)
 	granted(t, store.Limit(ctx, "b", pibroulez.Usage{Blocks: 60, Inodes: 60}))

@@ -21,6 +21,8 @@ type limits struct {
 	log   *logrus.Logger
 	path  string
 	given map[string]pibroulez.Usage
+	// Whether the file lacks a change.
+	hasChanged bool
 }
 
 // The limits that a file has. Without it each is given anew.
@@ -40,25 +42,42 @@ func readLimits(log *logrus.Logger, path string) *limits {
 // Gives the store each limit of the configuration that is another one than before. One that is refused is told, the
 // tenant's stays as it is, and it is given again at the next time.
 func (l *limits) apply(ctx context.Context, store *pibroulez.Store, c *configuration.Configuration) {
-	hasChanged := false
 	for _, name := range told.Sorted(c.Tenants) {
 		limit := c.Tenants[name].Limit
 		if given, isGiven := l.given[name]; isGiven && given == limit {
 			continue
 		}
 		told := l.log.WithField("tenant", name).WithField("limit", limit.String())
-		if err := l.set(ctx, store, name, limit); err != nil {
+		err := l.set(ctx, store, name, limit)
+		if errors.Is(err, pibroulez.ErrNoNamespace) {
+			// It couldn't be made, which is told by itself.
+			continue
+		}
+		if err != nil {
 			told.WithError(err).Error("the old limit stays")
 			continue
 		}
 		told.Info("limit")
-		l.given[name], hasChanged = limit, true
+		l.give(name, limit)
 	}
-	if !hasChanged {
+	if !l.hasChanged {
 		return
 	}
 	if err := l.write(); err != nil {
 		l.log.WithError(err).Warn("the limits are given anew at the next start")
+		return
+	}
+	l.hasChanged = false
+}
+
+// The store has this limit of the configuration.
+func (l *limits) give(name string, limit pibroulez.Usage) { l.given[name], l.hasChanged = limit, true }
+
+// The store has no such tenant any more.
+func (l *limits) forget(name string) {
+	if _, isGiven := l.given[name]; isGiven {
+		delete(l.given, name)
+		l.hasChanged = true
 	}
 }
 

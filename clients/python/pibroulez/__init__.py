@@ -67,6 +67,7 @@ from .errors import (
     LeaseExists,
     Leased,
     LogFailed,
+    NamespaceExists,
     NoHand,
     NoLease,
     NoNamespace,
@@ -91,6 +92,7 @@ from .errors import (
     TooManyActives,
     TooManyConnections,
     TooManyLinks,
+    TooManyNamespaces,
 )
 from .store import PROGRAM, Store
 
@@ -130,6 +132,7 @@ __all__ = [
     "Leased",
     "LogFailed",
     "Mount",
+    "NamespaceExists",
     "NoHand",
     "NoLease",
     "NoNamespace",
@@ -167,6 +170,7 @@ __all__ = [
     "TooManyActives",
     "TooManyConnections",
     "TooManyLinks",
+    "TooManyNamespaces",
     "Unpacked",
     "Usage",
     "Viewed",

@@ -1,4 +1,4 @@
-"""The commands on the rounds, snapshots, leases and limits of a store, and the questions to it."""
+"""The commands on the rounds, namespaces, snapshots, leases and limits of a store, and the questions to it."""
 from __future__ import annotations
 
 from typing import Any, Callable, Iterator, Mapping, Sequence, Type, TypeVar
@@ -207,7 +207,24 @@ class Snapshots(Calls):
 
         return _each(walk, after, lambda info: info.name)
 
-    # Leases, limits and sweeps
+    # Namespaces, leases, limits and sweeps
+
+    def namespace_create(self, namespace: str, blocks: int, inodes: int, *, session: int | None = None) -> None:
+        """Makes a namespace with its limit: blocks of 4096 bytes, and inodes, each 0 to 2**40. It has no snapshot, no
+        lease and no charge, whatever an earlier one of this name had.
+
+        `BadArgument` where the name isn't 1 to 255 bytes without NUL, or a quantity is above 2**40; else `NamespaceExists` where the store has it; else `TooManyNamespaces` where the store has 4096. After a
+        refusal the namespaces are as they were.
+        """
+        self._call("namespace_create", session, ns=namespace, blocks=blocks, inodes=inodes)
+
+    def namespace_remove(self, namespace: str, *, session: int | None = None) -> None:
+        """Removes a namespace and its limit. A call on it is `NoNamespace` then, and no question tells it.
+
+        `NoNamespace` where the store doesn't have it; else `NotEmpty` where it has a snapshot of any kind or a lease.
+        After a refusal it is as it was.
+        """
+        self._call("namespace_remove", session, ns=namespace)
 
     def lease_create(
         self, namespace: str, lease: str, until: int | None = None, *, session: int | None = None
@@ -285,8 +302,8 @@ class Snapshots(Calls):
         max: int | None = None,
         full: bool = False,
     ) -> tuple[Entry, ...]:
-        """A page of the entries of a namespace, or of all, in order, from the number `after` on, in full with their
-        lines."""
+        """A page of the entries of a namespace since it was last made, or of all, in order, from the number `after` on,
+        in full with their lines."""
         entries = self._call("journal", ns=namespace, after=after, max=max, full=full or None)["journal"]
         return tuple(_entry(it) for it in entries)
 

@@ -37,7 +37,15 @@ class BadArgument(Refused):
 
 
 class NoNamespace(Refused):
-    """The store was opened without this namespace."""
+    """The store doesn't have this namespace."""
+
+
+class NamespaceExists(Refused):
+    """The store has a namespace of this name."""
+
+
+class TooManyNamespaces(Refused):
+    """The store has 4096 namespaces, and can have no more."""
 
 
 class NotFound(Refused):
@@ -153,7 +161,7 @@ class Exists(Refused):
 
 
 class NotEmpty(Refused):
-    """The directory has entries (ENOTEMPTY)."""
+    """The namespace has a snapshot or a lease (`source` is `book`), or the directory has entries (`file`; ENOTEMPTY)."""
 
 
 class CrossDevice(Refused):

@@ -100,7 +100,7 @@ class Store(Snapshots, Files):
         log: StrPath | None = None,
         roll_when_full: bool = False,
     ) -> None:
-        """Opens a store with namespaces and their limits, and, where a log is named, begins that.
+        """Opens a store with namespaces and their limits, 4096 at most, and, where a log is named, begins that.
 
         `slots` is how many snapshots may be active at one time, of all namespaces together: 1 to 4096, and 64
         where it is left out. `layer_inodes` is the most inodes of each layer: 1 to 16,777,216, and 65,536 where it is
@@ -173,7 +173,7 @@ class Store(Snapshots, Files):
         """The store that the log tells, or a new one where there is no log, or none with a line.
 
         Raises what `from_log` and `Store` raise, and BadLog where the log's store was opened with other values than
-        these. Limits that were changed later don't count.
+        these. Limits that were changed later, and namespaces that were made or removed, don't count.
         """
         bounds = {"journal": journal, "slots": slots, "layer_inodes": layer_inodes, "ancestors": ancestors}
         line = _opening(root, namespaces, **bounds)

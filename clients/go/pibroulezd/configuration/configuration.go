@@ -19,7 +19,7 @@ import (
 // Bounds, of docs/RULES.md but for leastJournal: a shorter round would be rolled too often.
 const (
 	MostLimit     = 1 << 40
-	mostTenants   = 64
+	mostTenants   = 4096
 	mostNameBytes = 255
 	leastJournal  = 1 << 16
 	mostJournal   = 1 << 20
@@ -27,6 +27,12 @@ const (
 	mostInodes    = 1 << 24
 	mostAncestors = 500
 )
+
+// The most tenants of a store of a cluster: cluster.MostTenants.
+const mostTenantsOfCluster = 127
+
+// What the namespace of a cluster's identity begins with.
+const identityBegin = "pibroulez-store-"
 
 // A store takes at most one part in so many of what is left, beyond its need.
 const mostShare = 1 << 20
@@ -255,8 +261,7 @@ func (c *Configuration) readTenants(t *table) {
 		c.Containerd, c.Tenants[ContainerdNamespace] = t.table("containerd").containerd()
 	}
 	if c.Cluster != nil {
-		// A store of a cluster has one for its identity.
-		most--
+		most = mostTenantsOfCluster
 	}
 	if len(c.Tenants) > most {
 		t.fault("tenants", fmt.Sprintf("at most %d are wanted, %d are there", most, len(c.Tenants)))
@@ -343,6 +348,9 @@ func (t *table) tenant(name string, isOfCluster bool) Tenant {
 	// The library takes a backslash in a key as itself, and TOML doesn't.
 	if name == "" || len(name) > mostNameBytes || strings.ContainsAny(name, "\\\x00") {
 		t.fault(name, fmt.Sprintf(`a name of 1 to %d bytes without \ and NUL is wanted, another one is there`, mostNameBytes))
+	}
+	if strings.HasPrefix(name, identityBegin) {
+		t.fault(name, "a store of a cluster has its identity under such a name: another one is wanted")
 	}
 	it := t.table(name)
 	limit := pibroulez.Usage{Blocks: it.limit("blocks", isOfCluster), Inodes: it.limit("inodes", isOfCluster)}

@@ -2,6 +2,7 @@ package configuration
 
 import (
 	"errors"
+	"fmt"
 	"io/fs"
 	"os"
 	"path/filepath"
@@ -94,8 +95,8 @@ func TestLeftOut(t *testing.T) {
 // Each fault is told by its line and its key, and all of a file at once.
 func TestFaults(t *testing.T) {
 	many := "root = \"/r\"\n"
-	for i := 0; i < 65; i++ {
-		many += "[tenants." + strings.Repeat("t", i+1) + "]\nblocks = 1\ninodes = 1\n"
+	for i := 0; i < 4097; i++ {
+		many += fmt.Sprintf("[tenants.t%d]\nblocks = 1\ninodes = 1\n", i)
 	}
 	for _, it := range []struct{ text, want string }{
 		{"", "p:1: root: a path is wanted, nothing is there"},
@@ -150,6 +151,7 @@ func TestFaults(t *testing.T) {
 		{"root = \"/r\"\n[lines]\npatience = 5", "p:3: lines.patience: a text is wanted, another number is there"},
 		{"root = \"/r\"\n[lines]\npatience = \"off\"", "p:3: lines.patience: a text as"},
 		{"root = \"/r\"\n[cluster]", "p:2: cluster.endpoints: an array of at least one text is wanted, nothing is there"},
+		{"root = \"/r\"\n[tenants.pibroulez-store-0]\nblocks = 1\ninodes = 1", "tenants.pibroulez-store-0: a store of a cluster has its identity under such a name: another one is wanted"},
 		{clustered + "endpoints = [\"x\", 1]", "p:3: cluster.endpoints: a text is wanted, another number is there"},
 		{clustered + "endpoints = \"x\"", "p:3: cluster.endpoints: an array of texts is wanted, another text is there"},
 		{clustered + "endpoints = [\"x\"]\nbatch = \"5\"", "p:4: cluster.batch: a text as \"64/64\", BLOCKS/INODES, is wanted"},
@@ -160,8 +162,8 @@ func TestFaults(t *testing.T) {
 		{clustered + "endpoints = [\"x\"]\nshare = 0", "p:4: cluster.share: a number from 1 to 1048576 is wanted"},
 		{clustered + "endpoints = [\"x\"]\ncert = \"x\"", "p:4: cluster.cert: a path that begins with / is wanted"},
 		{clustered + "endpoints = [\"x\"]\ntls = true", "p:4: cluster.tls: no such key"},
-		{many, "p:2: tenants: at most 64 are wanted, 65 are there"},
-		{many + "[cluster]\nendpoints = [\"x\"]", "p:2: tenants: at most 63 are wanted, 65 are there"},
+		{many, "p:2: tenants: at most 4096 are wanted, 4097 are there"},
+		{many + "[cluster]\nendpoints = [\"x\"]", "p:2: tenants: at most 127 are wanted, 4097 are there"},
 		{"root = \"/r\"\nslots = =", "p:2: not TOML: "},
 		{"root = \"/r\"\nroot = \"/r\"", "p:2: not TOML: The following key was defined twice: root"},
 		{"root = \"/r\"\n[tenants.a]\n[tenants.a]", "not TOML: "},
@@ -244,7 +246,7 @@ inodes = 1
 		keys = append(keys, it.Key)
 	}
 	equal(t, keys, []string{
-		"ancestors", "journal", "layer_inodes", "lines", "log", "program", "root", "slots", `tenants."b/c d"`, "tenants.new",
+		"ancestors", "journal", "layer_inodes", "lines", "log", "program", "root", "slots",
 	})
 	if words := refused[3].Error(); words != "p: lines: it can't change while the daemon runs: the door stays" {
 		t.Error(words)
@@ -253,8 +255,7 @@ inodes = 1
 		t.Error(words)
 	}
 	want := *old
-	want.Operators, want.Quotas = read.Operators, read.Quotas
-	want.Tenants = map[string]Tenant{"a": read.Tenants["a"], "b/c d": {Limit: pibroulez.Usage{Blocks: 1 << 40}}}
+	want.Operators, want.Quotas, want.Tenants = read.Operators, read.Quotas, read.Tenants
 	equal(t, *next, want)
 	other := *old
 	other.Lines = &Lines{"/other", 0o666, 1, 2, 3, "/r"}
@@ -295,8 +296,25 @@ func TestCluster(t *testing.T) {
 	if len(refused) != 2 || refused[0].Key != "cluster" || refused[1].Key != "tenants.b" {
 		t.Errorf("%v", refused)
 	}
+	other, refused := c.Next("p", read("[tenants.a]\n[tenants.new]"))
+	if len(refused) != 2 || refused[0].Key != "tenants.b" || refused[1].Key != "tenants.new" || len(other.Tenants) != 2 {
+		t.Errorf("%v, %v", refused, other.Tenants)
+	}
 	equal(t, next.Cluster, c.Cluster)
 	equal(t, next.Tenants["b"], Tenant{Limit: pibroulez.Usage{Blocks: 5, Inodes: 1 << 40}, Members: Members{map[uint32]bool{3: true}, map[uint32]bool{}}})
+
+	// A file that gains or loses the cluster changes members alone.
+	alone, err := parse("p", []byte("root = \"/r\"\n[tenants.a]\nblocks = 1\ninodes = 2\nusers = [7]\n[tenants.b]\nblocks = 3\ninodes = 4\nusers = [7]\n"))
+	granted(t, err)
+	clusters := read("[tenants.a]\nusers = [8]\n[tenants.new]\n")
+	next, _ = alone.Next("p", clusters)
+	equal(t, next.Tenants, map[string]Tenant{
+		"a": {Limit: alone.Tenants["a"].Limit, Members: clusters.Tenants["a"].Members}, "b": {Limit: alone.Tenants["b"].Limit},
+	})
+	next, _ = clusters.Next("p", alone)
+	equal(t, next.Tenants, map[string]Tenant{
+		"a": {Limit: clusters.Tenants["a"].Limit, Members: alone.Tenants["a"].Members}, "new": {Limit: clusters.Tenants["new"].Limit},
+	})
 }
 
 func TestWatch(t *testing.T) {
@@ -358,6 +376,16 @@ func TestTenantsOfContainerd(t *testing.T) {
 		t.Errorf("%v", refused)
 	}
 	equal(t, next.Tenants["a"], Tenant{Limit: pibroulez.Usage{Blocks: 1, Inodes: 2}, IsContainerds: true})
+	// It comes and goes at a start.
+	without := read("inodes = 2\ncontainerd = true")
+	delete(without.Tenants, "a")
+	for was, now := range map[*Configuration]*Configuration{old: without, without: old} {
+		next, refused = was.Next("p", now)
+		if len(refused) != 1 || refused[0].Key != "tenants.a" {
+			t.Errorf("%v", refused)
+		}
+		equal(t, next.Tenants, was.Tenants)
+	}
 	next, refused = read("inodes = 2\nusers = [1]").Next("p", old)
 	equal(t, len(refused), 1)
 	equal(t, next.Tenants["a"], Tenant{Limit: pibroulez.Usage{Blocks: 1, Inodes: 2}})

@@ -5,9 +5,9 @@ import (
 	"sort"
 )
 
-// Next is what a running daemon goes on with where its file is read again: the roles, and the limits of its tenants but in
-// a cluster, are those of the file, and all else stays as it is. Each key of the file that says something else is among the faults, which
-// refuse it.
+// Next is what a running daemon goes on with where its file is read again: the roles and, but in a cluster, the tenants with
+// their limits are those of the file, and all else stays as it is. Tenants of containerd stay too: the door has them from its
+// beginning. Each key of the file that says something else is among the faults, which refuse it.
 func (c *Configuration) Next(path string, read *Configuration) (*Configuration, Faults) {
 	var refused Faults
 	refuse := func(key, words string) { refused = append(refused, &Fault{Path: path, Key: key, Words: words}) }
@@ -26,9 +26,16 @@ func (c *Configuration) Next(path string, read *Configuration) (*Configuration, 
 			continue
 		}
 		now, isThere := read.Tenants[name]
-		if !isThere {
-			refuse("tenants."+told(name), "a tenant stays as long as its store: it keeps its limit, and has no members")
+		switch {
+		case isThere:
+		case c.Cluster != nil:
+			refuse("tenants."+told(name), "in a cluster a tenant stays as long as its store: it has no members")
 			now = Tenant{Limit: tenant.Limit}
+		case tenant.IsContainerds:
+			refuse("tenants."+told(name), "a tenant of containerd stays while the daemon runs: it keeps its limit")
+			now = tenant
+		default:
+			continue
 		}
 		if isThere && now.IsContainerds != tenant.IsContainerds {
 			refuse("tenants."+told(name), "whose its snapshots are can't change while the daemon runs: it stays, and the tenant has no members")
@@ -41,9 +48,26 @@ func (c *Configuration) Next(path string, read *Configuration) (*Configuration, 
 		}
 		next.Tenants[name] = now
 	}
-	for name := range read.Tenants {
-		if _, isThere := c.Tenants[name]; !isThere && !(name == ContainerdNamespace && read.Containerd != nil) {
-			refuse("tenants."+told(name), "a store has the tenants with which it was opened: this one isn't made")
+	for name, tenant := range read.Tenants {
+		_, isThere := c.Tenants[name]
+		switch {
+		case isThere:
+		case name == ContainerdNamespace && read.Containerd != nil:
+			// The door is refused by its own key.
+		case c.Cluster != nil:
+			refuse("tenants."+told(name), "in a cluster a tenant is made at a start")
+		case tenant.IsContainerds:
+			refuse("tenants."+told(name), "a tenant of containerd is made at a start")
+		default:
+			next.Tenants[name] = tenant
+		}
+	}
+	if (c.Cluster == nil) != (read.Cluster == nil) {
+		// Limits are of another kind there: one that is left out is the most. So the members alone are those of the file.
+		next.Tenants = map[string]Tenant{}
+		for name, tenant := range c.Tenants {
+			tenant.Members = read.Tenants[name].Members
+			next.Tenants[name] = tenant
 		}
 	}
 	sort.SliceStable(refused, func(i, j int) bool { return refused[i].Key < refused[j].Key })

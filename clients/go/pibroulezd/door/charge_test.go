@@ -88,6 +88,9 @@ func TestCharges(t *testing.T) {
 	// 10 blocks of a file in two directories: the file, and what copies of these would take.
 	equal(t, g.needs[3], "12/3")
 	equal(t, k.ask(`{"do":"limit","ns":"a","blocks":5000,"inodes":5000,"id":1}`), `{"answer":{"error":"NotAllowed","from":"door"},"id":1}`)
+	for _, line := range []string{`{"do":"namespace_create","ns":"new","blocks":1,"inodes":1}`, `{"do":"namespace_remove","ns":"b"}`} {
+		equal(t, k.ask(line), `{"error":"NotAllowed","from":"door"}`)
+	}
 	answer := k.ask(`{"do":"charge","ns":"a","key":"put","need":[5000,1],"id":2}`)
 	if !strings.HasPrefix(answer, `{"answer":{"error":"OverLimit","free":[`) || !strings.HasSuffix(answer, `],"from":"cluster","words":"no \"room\""},"id":2}`) {
 		t.Error(answer)

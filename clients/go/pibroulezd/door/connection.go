@@ -136,9 +136,9 @@ func (c *connection) carryOut(text []byte) bool {
 	return false
 }
 
-// Whether the peer may make a call now. In a cluster nobody sets the store's limits.
+// Whether the peer may make a call now.
 func (c *connection) isAllowed(it command) bool {
-	return c.door.config.Rights(c.peer).allow(it.Line) && (it.Do != "limit" || c.door.config.Charge == nil)
+	return c.door.config.Rights(c.peer).allow(it.Line) && (c.door.config.Charge == nil || !isNobodysInCluster[it.Do])
 }
 
 func (c *connection) refuse(it command, name pibroulez.Reason) bool {

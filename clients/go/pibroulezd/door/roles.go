@@ -12,7 +12,8 @@ type Rights struct {
 	IsOperator bool
 	// IsQuota is for limits, and for what changes nothing and makes no entry, in each namespace.
 	IsQuota bool
-	// Namespaces are those whose tenant the caller is: for all commands on one of them but `limit`, in session 0.
+	// Namespaces are those whose tenant the caller is: for all commands on one of them but `limit`,
+	// `namespace_create` and `namespace_remove`, in session 0.
 	Namespaces map[string]bool
 }
 
@@ -41,10 +42,13 @@ var isTenants = setOf(
 	"look", "list", "read", "resolve", "du", "quota", "leases", "tree", "diff", "journal",
 )
 
+// Commands that nobody makes in a cluster, since its agent has the tenants of the file and sets their limits.
+var isNobodysInCluster = setOf("limit", "namespace_create", "namespace_remove")
+
 // Commands whose answers have at most some hundred bytes, but for the ids of the ancestors.
 var isShort = setOf(
 	"session", "reopen", "roll", "prepare", "view", "remove", "usage", "charge", "trim", "commit", "discard",
-	"lease_create", "lease_add", "lease_drop", "lease_release", "limit",
+	"lease_create", "lease_add", "lease_drop", "lease_release", "limit", "namespace_create", "namespace_remove",
 	"mkdir", "create", "put", "write", "truncate", "setmode", "symlink", "link", "rename", "unlink", "rmdir", "opaque", "whiteout",
 	"batch",
 	"du",

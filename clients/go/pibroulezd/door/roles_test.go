@@ -46,6 +46,8 @@ var commands = []struct {
 	{`{"do":"lease_drop","ns":"NS","lease":"l","name":"base"}`, false, true},
 	{`{"do":"lease_release","ns":"NS","lease":"l"}`, false, true},
 	{`{"do":"limit","ns":"NS","blocks":50,"inodes":50}`, true, false},
+	{`{"do":"namespace_create","ns":"NS","blocks":5,"inodes":5}`, false, false},
+	{`{"do":"namespace_remove","ns":"NS"}`, false, false},
 	{`{"do":"sweep","ns":"NS","now":0}`, false, true},
 	{`{"do":"sweep","ns":"NS","now":0,"try":false}`, false, true},
 	{`{"do":"sweep","ns":"NS","now":0,"try":true}`, true, true},
