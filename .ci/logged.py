@@ -17,7 +17,7 @@ NOT_KEPT = b'{"error":"NotKept","from":"log"}'
 BUSY, NO_LOG, UNKNOWN, DIFFERS = 6, 7, 8, 9
 CALLS = set(
     "session reopen roll prepare view stat update usage mounts walk remove commit charge trim discard limit sweep"
-    " lease_create lease_add lease_drop lease_release"
+    " lease_create lease_add lease_drop lease_release namespace_create namespace_remove"
     " batch mkdir create put write truncate setmode symlink link unlink rmdir rename opaque whiteout".split()
 )
 ASKING = ("quiet", "chain", "try")
