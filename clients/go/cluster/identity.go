@@ -19,8 +19,9 @@ const identityBegin = "pibroulez-store-"
 // by one transaction, which has at most mostOps operations.
 const MostTenants = mostOps - 1
 
-// Namespaces are what a new store of a cluster is opened with: each tenant, with a limit of 0/0, and a new identity. There
-// may be at most MostTenants.
+// Namespaces are what a new store of a cluster is opened with: each tenant, with a limit of 0/0, and a new identity.
+//
+// The error is ErrNoIdentity where a tenant has the name of an identity, and ErrBadConfig for more than MostTenants.
 func Namespaces(tenants ...string) (map[string]Usage, error) {
 	var bits [16]byte
 	if _, err := rand.Read(bits[:]); err != nil {
@@ -33,11 +34,14 @@ func Namespaces(tenants ...string) (map[string]Usage, error) {
 		}
 		namespaces[it] = Usage{}
 	}
+	if count := len(namespaces) - 1; count > MostTenants {
+		return nil, fmt.Errorf("%w: %d tenants, and %d are the most", ErrBadConfig, count, MostTenants)
+	}
 	return namespaces, nil
 }
 
 // OpenOrNew has the store back that config.Log tells, as pibroulez.OpenOrNew does, or opens a new one for these tenants,
-// with an identity of its own. config.Namespaces isn't read.
+// with an identity of its own. config.Namespaces isn't read. The error is that of Namespaces or of pibroulez.OpenOrNew.
 func OpenOrNew(ctx context.Context, config pibroulez.Config, tenants ...string) (*pibroulez.Store, error) {
 	namespaces, err := Namespaces(tenants...)
 	if err != nil {

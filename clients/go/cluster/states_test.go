@@ -432,13 +432,18 @@ func TestIdentity(t *testing.T) {
 	_, err := New(ctx, config)
 	isError(t, err, ErrNoIdentity)
 	var many []string
-	for number := 0; number <= MostTenants; number++ {
+	for number := 0; number < MostTenants; number++ {
 		many = append(many, fmt.Sprint("t", number))
 	}
 	full := must(OpenOrNew(ctx, pibroulez.Config{Program: program(), Root: "/r"}, many...))(t)
 	defer full.Close()
+	if err := full.NamespaceCreate(ctx, "one more", usage(1, 1)); err != nil {
+		t.Fatal(err)
+	}
 	config.Store = full
 	_, err = New(ctx, config)
+	isError(t, err, ErrBadConfig)
+	_, err = Namespaces(append(many, "one more")...)
 	isError(t, err, ErrBadConfig)
 	_, err = Namespaces(identityBegin + "x")
 	isError(t, err, ErrNoIdentity)
