@@ -12,7 +12,7 @@ extern int *__errno_location(void);
 enum { WRITE = 1, OPEN = 2, MMAP = 9, PREAD = 17, PWRITE = 18, FSYNC = 74, FDATASYNC = 75, NO_SPACE = 28 };
 enum { WRITTEN = 1, SYNCED = 2, ANSWERED = 3 };
 
-/* How many calls of a kind there were, and the number, from 1, of the one that fails: with this error, once so many of its
+/* How many calls of a kind there were, and the number, from 1, of the one that fails: with this error, once this many of its
    bytes were carried out; without an error it is short. */
 struct calls {
     word count, failing, error, bytes;

@@ -238,7 +238,7 @@ class Server:
             pass
 
     def answers(self, number):
-        """So many answers, or fewer where the process ends before."""
+        """This number of answers, or fewer where the process ends before."""
         output, until = self.process.stdout.fileno(), time.monotonic() + SECONDS
         while self.rest.count(b"\n") < number:
             wanted(select.select([output], [], [], max(0, until - time.monotonic()))[0], f"no answer in {SECONDS} s")

@@ -41,7 +41,7 @@ def name(number, layer):
 
 
 def some(entries, count, first=0):
-    """So many numbers of entries, spread over all."""
+    """A number of numbers of entries, spread over all."""
     return [(first + k) * STRIDE % entries for k in range(count)]
 
 
@@ -67,7 +67,7 @@ def layer_of(entries, layer):
 
 
 def upper_of(pair, entries, layers, uppers):
-    """Makes so many upper layers anew."""
+    """Makes a number of upper layers anew."""
     pair.ask([f"uppers {uppers}", "fill"], 1)
     fill(pair, layer_of(entries, layers - 1))
 
@@ -90,7 +90,7 @@ def measure_looks(pair, paths):
 
 
 def per_item(measured, count):
-    """Seconds of both in microseconds for each of so many."""
+    """Seconds of both in microseconds for each of a number."""
     return tuple(seconds * 1e6 / count for seconds in measured)
 
 
@@ -141,7 +141,7 @@ def applied(pair, operations):
 
 
 def renames(pair, layers, entries, tree):
-    """The renames of a directory of the upper layer with a tree of so many entries."""
+    """The renames of a directory of the upper layer with a tree of a number of entries."""
     upper_of(pair, entries, layers, 1)
     fill(pair, [f"mkdir {TREE}", *(f"create {TREE}/f{k:05}" for k in range(tree))])
     count = 200

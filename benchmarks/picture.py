@@ -107,7 +107,7 @@ def drawn_panel(panel, styles):
 
 
 def drawn_key(styles, top, columns):
-    """The names in so many columns, and what both kinds of lines are."""
+    """The names in a number of columns, and what both kinds of lines are."""
     rows = math.ceil(len(styles) / columns)
     entries = [(place // rows, place % rows, name, style, False) for place, (name, style) in enumerate(styles.items())]
     entries.append((0, rows + 0.5, "the product", PROGRAMS, False))
@@ -120,7 +120,7 @@ def drawn_key(styles, top, columns):
 
 
 def picture(panels, columns=2):
-    """The panels in rows of so many, with a key below them."""
+    """The panels in rows of a number, with a key below them."""
     names = list(dict.fromkeys(name for panel in panels for name in panel.lines))
     styles = {name: Style(*each) for name, each in zip(names, zip(itertools.cycle(COLOURS), itertools.cycle(MARKS)))}
     columns = min(columns, len(panels))

@@ -39,7 +39,7 @@ class Program:
         raise RuntimeError(f"{self.words}: no resident size")
 
     def ask(self, lines, count):
-        """Writes the lines and waits for so many answers. Returns them and the processor time."""
+        """Writes the lines and waits for a number of answers. Returns them and the processor time."""
         before = self.seconds()
         self.process.stdin.write(("\n".join(lines) + "\n").encode())
         self.process.stdin.flush()
@@ -92,7 +92,7 @@ class Pair:
         self.plain.__exit__()
 
     def ask(self, lines, count):
-        """The processor time of both for these lines, which have so many answers."""
+        """The processor time of both for these lines, which have a number of answers."""
         ours, ours_seconds = self.ours.ask(lines, count)
         plain, plain_seconds = self.plain.ask(lines, count)
         self.answers = ours

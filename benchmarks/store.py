@@ -4,7 +4,7 @@
     store.py SCRIPT_PROGRAM PLAIN_PROGRAM [SECONDS]
 
 Prints a line for each figure, its parts separated by tabs. Times are in microseconds of processor time, memory is
-in bytes. A store that would take the product more than so many seconds to build (300 where no number is given) is
+in bytes. A store that would take the product more than a number of seconds to build (300 where no number is given) is
 not built, and the larger ones neither: a line on standard error says so.
 """
 

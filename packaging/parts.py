@@ -17,7 +17,9 @@ GO_MODULE = "pibroulez.example/pibroulez"
 GO_LIBRARIES = "/usr/share/gocode"
 # The programs in Go, by the folder of their sources.
 GO_PROGRAMS = {"pibroulezd": "pibroulezd", "pibroulez": "pibroulez-cli"}
-MANUALS = {"pibroulezd.8": GO / "pibroulezd/pibroulezd.8", "pibroulez.1": GO / "pibroulez-cli/pibroulez.1"}
+MANUALS = {
+    "pibroulezd.8": GO / "pibroulezd/pibroulezd.8", "pibroulez.1": GO / "pibroulez-cli/pibroulez.1", "snap_replay.1": TOP / "packaging/snap_replay.1",
+}
 UNIT = GO / "pibroulezd/pibroulezd.service"
 EXAMPLE = TOP / "packaging/pibroulezd.toml"
 SHELLS = ("bash", "zsh", "fish")

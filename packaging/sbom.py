@@ -15,6 +15,8 @@ import parts
 from parts import GO, GO_LIBRARIES, GO_MODULE, GO_PROGRAMS, TOP
 
 LICENSE = [{"license": {"id": "Apache-2.0"}}]
+# What the compiler's driver adds to a static program, with its terms.
+OF_C = {"libc.a": "LGPL-2.1-or-later", "libgcc.a": "GPL-3.0-or-later WITH GCC-exception-3.1"}
 
 
 def crates() -> Dict[str, List[str]]:
@@ -64,6 +66,16 @@ def of_crates(version: str, kit: str) -> List[Dict[str, Any]]:
     return ours + [library(name, kit, description="a library of the toolchain") for name in theirs]
 
 
+def of_c() -> List[Dict[str, Any]]:
+    """What the static program has of Debian's C library and compiler."""
+    found = []
+    for file, terms in OF_C.items():
+        path = Path(parts.run(["gcc", f"-print-file-name={file}"]).strip()).resolve()
+        for name, number in debian_packages([str(path)]).items():
+            found.append(library(name, number, purl=f"pkg:deb/debian/{name}@{number}", licenses=[{"expression": terms}]))
+    return found
+
+
 def of_go() -> tuple[List[Dict[str, Any]], Dict[str, List[str]]]:
     """The components of the programs in Go, and those of each program by their references."""
     version = re.sub(r"^go version go(\S+) .*$", r"\1", parts.run(["go", "version"]).strip())
@@ -82,7 +94,7 @@ def text(files: Dict[str, bytes], kit: str) -> bytes:
     """The bill of the files of an archive, by their paths."""
     version = parts.version()
     product = {"type": "application", "name": "pibroulez", "version": version, "bom-ref": f"pibroulez@{version}", "licenses": LICENSE}
-    components = of_crates(version, kit)
+    components = of_crates(version, kit) + of_c()
     depends = [{"ref": "snap_replay", "dependsOn": [it["bom-ref"] for it in components]}]
     more, uses = of_go()
     for name, refs in uses.items():

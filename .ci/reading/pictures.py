@@ -5,7 +5,7 @@
 
 A description is of lines. `picture NAME: TITLE` begins one, with NAME.svg. The others are of the last picture:
 
-  zone COLUMN,ROW WIDTHxHEIGHT: TEXT                   a ground below boxes, so many columns wide and rows high
+  zone COLUMN,ROW WIDTHxHEIGHT: TEXT                   a ground below boxes, its width in columns and its height in rows
   box ID COLUMN,ROW: NAME, .. of CRATE: TEXT / TEXT    a box with names of a crate's code or definitions
   box ID COLUMN,ROW: TITLE: TEXT / TEXT                a box with a title alone
   ID -> ID: TEXT                                       an arrow between boxes of one column or one row: what the first

@@ -1,7 +1,7 @@
 // Makes and removes records in a file of bbolt: each change is a transaction, and is on the disk when it is answered.
 // Those of several callers share transactions where they come together (DB.Batch).
 //
-//	main PATH CALLERS CHANGES    prints the seconds that so many changes took
+//	main PATH CALLERS CHANGES    prints the seconds that CHANGES changes took
 package main
 
 import (

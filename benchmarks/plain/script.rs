@@ -7,7 +7,7 @@ use crate::store::{Call, Content, Refused, Reply, Store};
 use std::error::Error;
 use std::io::{self, BufRead, BufReader, Read, Write};
 
-/// So many bytes are read at once, and as many written, but for a longer answer.
+/// The bytes that are read at once, and as many written, but for a longer answer.
 const BUFFER_BYTES: usize = 1 << 16;
 
 pub fn run(input: impl Read) -> Result<(), Box<dyn Error>> {

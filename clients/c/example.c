@@ -17,7 +17,7 @@ static void give_up(const char *why)
     exit(1);
 }
 
-/* So many bytes, and a pointer that isn't null where there are none. */
+/* A number of bytes, and a pointer that isn't null where there are none. */
 static uint8_t *memory(size_t length)
 {
     uint8_t *found = malloc(length ? length : 1);

@@ -49,7 +49,7 @@ func WriteTextOf(path string, offset uint64, text string) Operation {
 	return Operation{"write", fields{"path": path, "offset": offset, "text": text}}
 }
 
-// WriteFillOf writes a byte so many times into a file.
+// WriteFillOf writes a byte a number of times into a file.
 func WriteFillOf(path string, offset uint64, fill byte, count uint64) Operation {
 	return Operation{"write", fields{"path": path, "offset": offset, "fill": [2]uint64{uint64(fill), count}}}
 }
@@ -100,7 +100,8 @@ type Batched struct {
 	Share Usage `json:"share"`
 }
 
-// An OperationRefused says that an operation of a batch was refused. Those before it are done, and no later one is.
+// An OperationRefused says that an operation of a batch was refused. Those before it are done, of a batch WithWhole none, and
+// no later one is.
 type OperationRefused struct {
 	// Number is the operation's, from 1.
 	Number uint64
@@ -113,8 +114,8 @@ func (o *OperationRefused) Error() string { return fmt.Sprintf("operation %d: %v
 func (o *OperationRefused) Unwrap() error { return o.Why }
 
 // Batch charges what is needed, and carries out operations in order. One that needs more than is charged makes a charge of
-// its own. The first that is refused is an OperationRefused, with what those before it leave. Where the charge is refused,
-// the error is that Refusal, and nothing is done.
+// its own. The first that is refused is an OperationRefused, with what those before it leave; WithWhole the layer is as it was
+// before the batch, and charges stay. Where the charge is refused, the error is that Refusal, and nothing is done.
 func (s *Store) Batch(ctx context.Context, namespace, key string, need Usage, operations []Operation, options ...Option) (Batched, error) {
 	if operations == nil {
 		operations = []Operation{}
@@ -131,8 +132,8 @@ func (s *Store) Batch(ctx context.Context, namespace, key string, need Usage, op
 	if err := json.Unmarshal(text, &answer); err != nil || answer.Op == 0 {
 		return answer.Batched, err
 	}
-	refusal := new(Refusal)
-	if err := json.Unmarshal(text, refusal); err != nil {
+	refusal, err := refusalIn(text)
+	if err != nil {
 		return answer.Batched, err
 	}
 	return answer.Batched, fmt.Errorf("batch: %w", &OperationRefused{answer.Op, refusal})

@@ -36,6 +36,25 @@ func TestBatch(t *testing.T) {
 	equal(t, must[[]string](t)(store.List(ctx, "a", "k", "/")), []string{"d", "l"})
 }
 
+// The answers of examples/files/whole-batch: the third operation is refused, and the layer is as it was.
+func TestWholeBatch(t *testing.T) {
+	store := newStore(t, Usage{20, 10})
+	must[Prepared](t)(store.Prepare(ctx, "a", "k", ""))
+	must[Batched](t)(store.Batch(ctx, "a", "k", Usage{5, 4}, []Operation{MkdirOf("/d", 0o755), CreateOf("/d/f", 0o644), WriteFillOf("/d/f", 0, 120, 5000)}))
+	made := []Operation{RenameOf("/d/f", "/g"), WriteFillOf("/g", 5000, 120, 5000), RmdirOf("/none"), UnlinkOf("/g")}
+	batch, err := store.Batch(ctx, "a", "k", Usage{5, 4}, made, WithWhole())
+	equal(t, batch, Batched{0, Usage{4, 3}, Usage{5, 4}})
+	var refused *OperationRefused
+	if !errors.As(err, &refused) || refused.Number != 3 || !errors.Is(err, ErrNotFound) {
+		t.Error(err)
+	}
+	equal(t, must[[]string](t)(store.List(ctx, "a", "k", "/")), []string{"d"})
+	made[2] = RmdirOf("/d")
+	equal(t, must[Batched](t)(store.Batch(ctx, "a", "k", Usage{5, 4}, made, WithWhole())), Batched{4, Usage{1, 1}, Usage{5, 4}})
+	_, err = store.Mkdir(ctx, "a", "k", "/d", WithWhole())
+	isError(t, err, ErrOption)
+}
+
 // Each maker of an operation, over a layer: the sums are the counts of what stands after them.
 func TestOperations(t *testing.T) {
 	store := newStore(t, Usage{100, 100})

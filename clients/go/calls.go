@@ -1,6 +1,9 @@
 package pibroulez
 
-import "context"
+import (
+	"context"
+	"strings"
+)
 
 // An Option gives a call a field that may be left out. One that the call doesn't have is ErrOption: nothing is sent.
 type Option struct {
@@ -41,6 +44,9 @@ func WithDigest(digest string) Option { return Option{"digest", digest, []string
 // WithExtra has a file command charge so much more, where it makes a charge and that fits.
 func WithExtra(extra Usage) Option { return Option{"extra", extra, fileCommands} }
 
+// WithWhole has a batch do all of its operations or none: where one is refused, the layer is as it was.
+func WithWhole() Option { return Option{"whole", true, []string{"batch"}} }
+
 // WithPeek lets a lookup be of a committed snapshot too.
 func WithPeek() Option { return Option{"peek", true, lookups} }
 
@@ -78,7 +84,7 @@ func (s *Store) Session(ctx context.Context) (uint64, error) {
 	return answer.Session, err
 }
 
-// Reopen begins the next round of the journal, of at most so many entries, or of the default where it is 0.
+// Reopen begins the next round of the journal, of at most this number of entries, or of the default where it is 0.
 func (s *Store) Reopen(ctx context.Context, journal uint64) error {
 	return s.begin(ctx, "reopen", journal)
 }
@@ -238,6 +244,12 @@ func (s *Store) NamespaceCreate(ctx context.Context, namespace string, limit Usa
 	return s.call(ctx, "namespace_create", given, options, nil)
 }
 
+// What the name of a namespace begins with that is the identity of a store of a cluster, and no tenant's.
+const identityBegin = "pibroulez-store-"
+
+// IsIdentity says whether a namespace of this name is there for the identity of a store of a cluster, and is no tenant.
+func IsIdentity(namespace string) bool { return strings.HasPrefix(namespace, identityBegin) }
+
 // NamespaceRemove removes a namespace and its limit. A call on it is ErrNoNamespace then, and no question tells it.
 //
 // It is ErrNoNamespace where the store doesn't have it, and else ErrNotEmpty where it has a snapshot of any kind or a lease.
@@ -284,7 +296,7 @@ func (s *Store) WriteText(ctx context.Context, namespace, key, path string, offs
 	return s.change(ctx, "write", given, options)
 }
 
-// WriteFill writes a byte so many times into a file.
+// WriteFill writes a byte a number of times into a file.
 func (s *Store) WriteFill(ctx context.Context, namespace, key, path string, offset uint64, fill byte, count uint64, options ...Option) (Changed, error) {
 	given := file(namespace, key, path)
 	given["offset"], given["fill"] = offset, [2]uint64{uint64(fill), count}

@@ -1,6 +1,7 @@
 package pibroulez
 
 import (
+	"encoding/json"
 	"errors"
 	"fmt"
 	"syscall"
@@ -133,10 +134,25 @@ type Refusal struct {
 	From string `json:"from"`
 	// Free is what the namespace has free. ErrOverLimit alone tells it.
 	Free Usage `json:"free"`
-	// Field is the first malformed field of `open`, where a store is refused for it, and else empty.
+	// Of is the field of the call that the refusal is about, by its name in a line (docs/SCRIPT.md), as "parent" where a
+	// new snapshot's parent isn't found. It is empty where no field alone is the cause.
+	Of string `json:"of"`
+	// Field is the first malformed field of `open`, where a store is refused for it, and else empty. It is in Of, too.
 	Field string `json:"field"`
 	// Words say why a daemon's cluster has no room, and who has some, or are empty.
 	Words string `json:"words"`
+}
+
+// The refusal that an answer tells.
+func refusalIn(text []byte) (*Refusal, error) {
+	refusal := new(Refusal)
+	if err := json.Unmarshal(text, refusal); err != nil {
+		return nil, err
+	}
+	if refusal.Of == "" {
+		refusal.Of = refusal.Field
+	}
+	return refusal, nil
 }
 
 func (r *Refusal) Error() string {

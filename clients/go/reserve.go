@@ -91,7 +91,7 @@ func (l *log) release(c *call) {
 	l.coming -= c.room()
 }
 
-// Has so many bytes of the disk behind the lines, and twice the reserve more where there is so much; where there is
+// Has this number of bytes of the disk behind the lines, and twice the reserve more where there is so much; where there is
 // less than the former, what there is.
 func (l *log) extend(bytes int64) error {
 	if l.isNone {

@@ -336,8 +336,8 @@ func refused(text []byte) error {
 		}
 		return fault
 	case bytes.HasPrefix(text, []byte(`{"error":`)):
-		refusal := new(Refusal)
-		if err := json.Unmarshal(text, refusal); err != nil {
+		refusal, err := refusalIn(text)
+		if err != nil {
 			return err
 		}
 		return refusal

@@ -386,40 +386,41 @@ func TestRefusals(t *testing.T) {
 		err    error
 		reason Reason
 		from   string
+		of     string
 	}{
-		{prepare("a", "", ""), ErrBadArgument, "book"},
-		{prepare("b", "x", ""), ErrNoNamespace, "book"},
-		{prepare("a", "x", "none"), ErrNotFound, "book"},
-		{prepare("a", "base", ""), ErrAlreadyExists, "book"},
-		{prepare("a", "x", "k"), ErrNotCommitted, "book"},
-		{notActive, ErrNotActive, "book"},
-		{remove("base"), ErrHasChildren, "book"},
-		{remove("k"), ErrInUse, "book"},
-		{remove("child"), ErrLeased, "book"},
-		{store.LeaseDrop(ctx, "a", "lease", "base"), ErrNotFound, "book"},
-		{store.LeaseRelease(ctx, "a", "none"), ErrNoLease, "book"},
-		{noLease, ErrNoLease, "book"},
-		{store.LeaseCreate(ctx, "a", "lease"), ErrLeaseExists, "book"},
-		{store.Limit(ctx, "a", Usage{1, 100}), ErrBelowCharge, "book"},
-		{noSession, ErrNoSession, "world"},
-		{mkdir("sealed", "/d"), ErrNoHand, "world"},
-		{store.Reopen(ctx, 0), ErrStillOut, "world"},
-		{unlink("/none"), ErrNotFound, "file"},
-		{mkdir("k", "/d/f/x"), ErrNotDir, "file"},
-		{unlink("/d"), ErrIsDir, "file"},
-		{mkdir("k", "/d"), ErrExists, "file"},
-		{notEmpty, ErrNotEmpty, "file"},
-		{crossDevice, ErrCrossDevice, "file"},
-		{mkdir("k", "/x", WithMode(0o10000)), ErrInvalid, "file"},
-		{notPermitted, ErrNotPermitted, "file"},
-		{tooBig, ErrTooBig, "file"},
-		{tooManyLinks, ErrTooManyLinks, "file"},
-		{badPath, ErrBadPath, "file"},
+		{prepare("a", "", ""), ErrBadArgument, "book", "key"},
+		{prepare("b", "x", ""), ErrNoNamespace, "book", "ns"},
+		{prepare("a", "x", "none"), ErrNotFound, "book", "parent"},
+		{prepare("a", "base", ""), ErrAlreadyExists, "book", "key"},
+		{prepare("a", "x", "k"), ErrNotCommitted, "book", "parent"},
+		{notActive, ErrNotActive, "book", "key"},
+		{remove("base"), ErrHasChildren, "book", "key"},
+		{remove("k"), ErrInUse, "book", "key"},
+		{remove("child"), ErrLeased, "book", "key"},
+		{store.LeaseDrop(ctx, "a", "lease", "base"), ErrNotFound, "book", "name"},
+		{store.LeaseRelease(ctx, "a", "none"), ErrNoLease, "book", "lease"},
+		{noLease, ErrNoLease, "book", "lease"},
+		{store.LeaseCreate(ctx, "a", "lease"), ErrLeaseExists, "book", "lease"},
+		{store.Limit(ctx, "a", Usage{1, 100}), ErrBelowCharge, "book", ""},
+		{noSession, ErrNoSession, "world", ""},
+		{mkdir("sealed", "/d"), ErrNoHand, "world", "key"},
+		{store.Reopen(ctx, 0), ErrStillOut, "world", ""},
+		{unlink("/none"), ErrNotFound, "file", "path"},
+		{mkdir("k", "/d/f/x"), ErrNotDir, "file", "path"},
+		{unlink("/d"), ErrIsDir, "file", "path"},
+		{mkdir("k", "/d"), ErrExists, "file", "path"},
+		{notEmpty, ErrNotEmpty, "file", "path"},
+		{crossDevice, ErrCrossDevice, "file", "from"},
+		{mkdir("k", "/x", WithMode(0o10000)), ErrInvalid, "file", "mode"},
+		{notPermitted, ErrNotPermitted, "file", "from"},
+		{tooBig, ErrTooBig, "file", "size"},
+		{tooManyLinks, ErrTooManyLinks, "file", "path"},
+		{badPath, ErrBadPath, "file", "path"},
 	} {
 		isError(t, it.err, it.reason)
 		var refusal *Refusal
-		if !errors.As(it.err, &refusal) || refusal.From != it.from {
-			t.Errorf("%v: not from %s", it.err, it.from)
+		if !errors.As(it.err, &refusal) || refusal.From != it.from || refusal.Of != it.of {
+			t.Errorf("%v: not from %s and of %q", it.err, it.from, it.of)
 		}
 	}
 }
@@ -432,7 +433,7 @@ func TestOverLimit(t *testing.T) {
 	isError(t, err, ErrOverLimit)
 	var refusal *Refusal
 	if errors.As(err, &refusal) {
-		equal(t, *refusal, Refusal{Reason: ErrOverLimit, From: "book", Free: Usage{3, 1}})
+		equal(t, *refusal, Refusal{Reason: ErrOverLimit, From: "book", Free: Usage{3, 1}, Of: "need"})
 	}
 }
 
@@ -468,7 +469,7 @@ func TestAncestors(t *testing.T) {
 	limits := map[string]Usage{"a": {100, 100}}
 	_, err := New(ctx, Config{Program: program(), Root: "/r", Namespaces: limits, Ancestors: 501})
 	isError(t, err, ErrBadArgument)
-	if refusal := new(Refusal); !errors.As(err, &refusal) || refusal.Field != "ancestors" {
+	if refusal := new(Refusal); !errors.As(err, &refusal) || refusal.Field != "ancestors" || refusal.Of != "ancestors" {
 		t.Errorf("%v: the field is not ancestors", err)
 	}
 	store := newStoreOf(t, Config{Program: program(), Root: "/r", Namespaces: limits, Ancestors: 2})

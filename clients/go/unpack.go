@@ -25,7 +25,7 @@ type Unpacked struct {
 
 // Unpack makes the layer of a new active snapshot by a layer's archive (tar, without compression), in batches that are
 // charged what all need. What becomes of its entries, whiteouts and opaque marks is told at layer.Read; files are made by
-// their sizes and digests. WithSession is of each batch.
+// their sizes and digests. WithSession and WithWhole are of each batch.
 //
 // The store is asked what lower layers show, and nothing is made before the archive is read. The error is ErrNotEmpty where
 // the layer has more than its root, layer.ErrUnreadable, or that of a batch, of which what came before is done.

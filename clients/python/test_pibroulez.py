@@ -261,12 +261,34 @@ class Commands(unittest.TestCase):
                 store.batch("a", "k", (5, 4), [{"do": "symlink", "path": "/l", "target": "d"}, made[0], made[0]])
             self.assertEqual(refused.exception.number, 2)
             self.assertIs(type(refused.exception.why), pibroulez.Exists)
+            self.assertEqual(refused.exception.why.of, "path")
             self.assertEqual(refused.exception.batch, Batched(1, Usage(4, 4), Usage(5, 4)))
             with self.assertRaises(pibroulez.OverLimit):
                 store.batch("a", "k", (6, 5), made)
             with self.assertRaises(Fault):
                 store.batch("a", "k", (5, 4), [{"do": "mkdir", "path": "d"}])
             self.assertEqual(store.listdir("a", "k", "/"), ("d", "l"))
+
+    def test_whole_batch(self) -> None:
+        """The answers of `examples/files/whole-batch`: the third operation is refused, and the layer is as it was."""
+        with open_store(20, 10) as store:
+            store.prepare("a", "k", "")
+            made = [{"do": "mkdir", "path": "/d"}, {"do": "create", "path": "/d/f"}]
+            store.batch("a", "k", (5, 4), [*made, {"do": "write", "path": "/d/f", "fill": (120, 5000)}])
+            given: list[dict[str, object]] = [
+                {"do": "rename", "from": "/d/f", "to": "/g"},
+                {"do": "write", "path": "/g", "offset": 5000, "fill": (120, 5000)},
+                {"do": "rmdir", "path": "/none"},
+                {"do": "unlink", "path": "/g"},
+            ]
+            with self.assertRaises(OperationRefused) as refused:
+                store.batch("a", "k", (5, 4), given, whole=True)
+            self.assertEqual(refused.exception.number, 3)
+            self.assertIs(type(refused.exception.why), pibroulez.NotFound)
+            self.assertEqual(refused.exception.batch, Batched(0, Usage(4, 3), Usage(5, 4)))
+            self.assertEqual(store.listdir("a", "k", "/"), ("d",))
+            given[2]["path"] = "/d"
+            self.assertEqual(store.batch("a", "k", (5, 4), given, whole=True), Batched(4, Usage(1, 1), Usage(5, 4)))
 
     def test_full_journal_in_a_batch(self) -> None:
         """It is not made once more in the next round, since a part of it is done. The journal has room for the session, the
@@ -414,10 +436,14 @@ class Documents(unittest.TestCase):
 
 
 class Refusals(unittest.TestCase):
-    def assert_refused(self, error: Type[Refused], source: str, call: Callable[[], object]) -> Refused:
+    def assert_refused(
+        self, error: Type[Refused], source: str, call: Callable[[], object], of: str | None = "any"
+    ) -> Refused:
         with self.assertRaises(error) as caught:
             call()
         self.assertEqual((caught.exception.name, caught.exception.source), (error.__name__, source))
+        if of != "any":
+            self.assertEqual(caught.exception.of, of)
         return caught.exception
 
     def test_snapshots(self) -> None:
@@ -429,21 +455,21 @@ class Refusals(unittest.TestCase):
             self.assertEqual(store.listdir("a", "child", "/", peek=True), ())
             self.assertEqual(store.du("a", "child", "/", peek=True), Usage(1, 1))
             store.prepare("a", "k", "")
-            for error, call in (
-                (pibroulez.BadArgument, lambda: store.prepare("a", "", "")),
-                (pibroulez.NoNamespace, lambda: store.prepare("b", "x", "")),
-                (pibroulez.NotFound, lambda: store.prepare("a", "x", "none")),
-                (pibroulez.AlreadyExists, lambda: store.prepare("a", "base", "")),
-                (pibroulez.NotCommitted, lambda: store.prepare("a", "x", "k")),
-                (pibroulez.NotActive, lambda: store.commit("a", "base", "x")),
-                (pibroulez.HasChildren, lambda: store.remove("a", "base")),
-                (pibroulez.InUse, lambda: store.remove("a", "k")),
-                (pibroulez.NoLease, lambda: store.lease_add("a", "lease", "base")),
-                (pibroulez.NoLease, lambda: store.leases("a", "lease")),
-                (pibroulez.BelowCharge, lambda: store.limit("a", 2, 100)),
+            for error, of, call in (
+                (pibroulez.BadArgument, "key", lambda: store.prepare("a", "", "")),
+                (pibroulez.NoNamespace, "ns", lambda: store.prepare("b", "x", "")),
+                (pibroulez.NotFound, "parent", lambda: store.prepare("a", "x", "none")),
+                (pibroulez.AlreadyExists, "key", lambda: store.prepare("a", "base", "")),
+                (pibroulez.NotCommitted, "parent", lambda: store.prepare("a", "x", "k")),
+                (pibroulez.NotActive, "key", lambda: store.commit("a", "base", "x")),
+                (pibroulez.HasChildren, "key", lambda: store.remove("a", "base")),
+                (pibroulez.InUse, "key", lambda: store.remove("a", "k")),
+                (pibroulez.NoLease, "lease", lambda: store.lease_add("a", "lease", "base")),
+                (pibroulez.NoLease, "lease", lambda: store.leases("a", "lease")),
+                (pibroulez.BelowCharge, None, lambda: store.limit("a", 2, 100)),
             ):
                 with self.subTest(error.__name__):
-                    self.assert_refused(error, "book", call)
+                    self.assert_refused(error, "book", call, of)
             store.lease_create("a", "lease")
             store.lease_add("a", "lease", "child")
             self.assertEqual(store.leases("a"), (Lease("lease", ("child",)),))
@@ -499,7 +525,7 @@ class Refusals(unittest.TestCase):
         for most in (0, 501):
             with self.subTest(most), self.assertRaises(pibroulez.BadArgument) as refused:
                 open_store(ancestors=most)
-            self.assertEqual(refused.exception.field, "ancestors")
+            self.assertEqual((refused.exception.field, refused.exception.of), ("ancestors", "ancestors"))
         self.assert_refused(pibroulez.JournalFull, "book", lambda: open_store(journal=0))
 
     def test_world(self) -> None:
@@ -545,21 +571,21 @@ class Refusals(unittest.TestCase):
             store.create("a", "k", "/d/f")
             for n in range(41):
                 store.symlink("a", "k", f"/l{n}", f"l{n + 1}")
-            for error, call in (
-                (pibroulez.NotFound, lambda: store.unlink("a", "k", "/none")),
-                (pibroulez.NotDir, lambda: store.mkdir("a", "k", "/d/f/x")),
-                (pibroulez.IsDir, lambda: store.unlink("a", "k", "/d")),
-                (pibroulez.Exists, lambda: store.mkdir("a", "k", "/d")),
-                (pibroulez.NotEmpty, lambda: store.rmdir("a", "k", "/d")),
-                (pibroulez.CrossDevice, lambda: store.rename("a", "k", "/lower", "/upper")),
-                (pibroulez.Invalid, lambda: store.create("a", "k", "/x", 0o10000)),
-                (pibroulez.NotPermitted, lambda: store.link("a", "k", "/d", "/x")),
-                (pibroulez.TooBig, lambda: store.truncate("a", "k", "/d/f", 1_048_577)),
-                (pibroulez.TooManyLinks, lambda: store.resolve("a", "k", "/l0")),
-                (pibroulez.BadPath, lambda: store.look("a", "k", "d")),
+            for error, of, call in (
+                (pibroulez.NotFound, "path", lambda: store.unlink("a", "k", "/none")),
+                (pibroulez.NotDir, "path", lambda: store.mkdir("a", "k", "/d/f/x")),
+                (pibroulez.IsDir, "path", lambda: store.unlink("a", "k", "/d")),
+                (pibroulez.Exists, "path", lambda: store.mkdir("a", "k", "/d")),
+                (pibroulez.NotEmpty, "path", lambda: store.rmdir("a", "k", "/d")),
+                (pibroulez.CrossDevice, "from", lambda: store.rename("a", "k", "/lower", "/upper")),
+                (pibroulez.Invalid, "mode", lambda: store.create("a", "k", "/x", 0o10000)),
+                (pibroulez.NotPermitted, "from", lambda: store.link("a", "k", "/d", "/x")),
+                (pibroulez.TooBig, "size", lambda: store.truncate("a", "k", "/d/f", 1_048_577)),
+                (pibroulez.TooManyLinks, "path", lambda: store.resolve("a", "k", "/l0")),
+                (pibroulez.BadPath, "path", lambda: store.look("a", "k", "d")),
             ):
                 with self.subTest(error.__name__):
-                    self.assert_refused(error, "file", call)
+                    self.assert_refused(error, "file", call, of)
 
 
 class Errors(unittest.TestCase):
@@ -568,7 +594,8 @@ class Errors(unittest.TestCase):
         path = "/log"
         others = {
             pibroulez.BadArgument: ("BadArgument", "book", "slots"),
-            pibroulez.OverLimit: ("OverLimit", "book", Usage(3, 1)),
+            pibroulez.OverLimit: ("OverLimit", "book", Usage(3, 1), "", "need"),
+            pibroulez.NotFound: ("NotFound", "book", "parent"),
             OperationRefused: (2, Refused("Exists", "file"), Batched(1, Usage(2, 2), Usage(3, 3))),
             Fault: ("too long", 2),
             pibroulez.ReservedField: ("id",),

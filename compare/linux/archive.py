@@ -79,7 +79,7 @@ class Maker:
 
 
 def make_image(place: Path, source: str, files: int, seed: int) -> Path:
-    """An archive of an image with so many files of the source, in a directory."""
+    """An archive of an image with a number of files of the source, in a directory."""
     maker = Maker(place, Random(seed))
     machine = _machine(source, files)
     at_once = min(MOST_FILES, -(-files * 3 // 5))
@@ -140,7 +140,7 @@ def _add(
     files: int,
     is_first: bool,
 ) -> None:
-    """So many files of the machine, and more: its marks, which come first, and changes."""
+    """A number of files of the machine, and more: its marks, which come first, and changes."""
     gone = [] if is_first else _hide(maker, archive)
     firsts: dict[int, str] = {}
     while files > 0 and (each := next(machine, None)) is not None:

@@ -10,7 +10,7 @@ from linux.layers import Layers
 from linux.program import Program
 from linux.shortest import shortest
 
-# Everything that a snapshot shows is compared after one in so many steps, and at its ends.
+# Everything that a snapshot shows is compared after one in this number of steps, and at its ends.
 WHOLE_EVERY = 8
 
 

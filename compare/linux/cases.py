@@ -322,7 +322,7 @@ def resolved_paths_above_4095(trial: Trial) -> None:
 
 
 def _deep_paths(top: str, size: int) -> list[str]:
-    """Directories in one another, down to a path of so many bytes."""
+    """Directories in one another, down to a path of a number of bytes."""
     paths = [top]
     while len(paths[-1]) < size:
         paths.append(paths[-1] + "/" + "m" * min(255, size - len(paths[-1]) - 1))

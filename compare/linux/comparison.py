@@ -51,7 +51,7 @@ class Counts:
 
 @dataclass
 class Comparison:
-    """A script on both sides. Once in so many steps all that a snapshot shows is compared, and else what stands at
+    """A script on both sides. Once in a number of steps all that a snapshot shows is compared, and else what stands at
     the paths of the step and beside them."""
 
     program: Program
@@ -152,11 +152,15 @@ class Comparison:
             self._look_at_all(ns, key)
 
     def _make_batch(self, command: Command, operations: Sequence[Command], here: Answer) -> None:
-        """Makes those operations of a batch that the program has done, and the one that it refuses for its files."""
+        """Makes those operations of a batch that the program has done, and the one that it refuses for its files. Of a whole
+        one with a refused operation none is made."""
         if "done" not in here:
             return
-        done = here["op"] - 1 if "op" in here else len(operations)
+        is_undone = "op" in here and command.get("whole", False)
+        done = 0 if is_undone else here["op"] - 1 if "op" in here else len(operations)
         self._judge(command, {"done": done}, {"done": here["done"]}, done == here["done"])
+        if is_undone:
+            return
         made = [GRANTED] * done
         if here.get("from") == "file":
             made.append(refusal(here["error"]))

@@ -31,7 +31,7 @@ made by the program and by its system call. After each of them both sides have t
 same error, to show the same by look, list, read, resolve and du, and to count the same blocks and inodes.
 
 Without a SCRIPT it takes, in this order, a case of each declared difference (docs/LINUX.md), the scripts of
-examples/, a chain of 300 layers, and scripts that it makes from the seed, until these have made so many steps. With
+examples/, a chain of 300 layers, and scripts that it makes from the seed, until these have made this number of steps. With
 SCRIPTs it takes these alone. A difference that is not declared is shown as a script, cut down to the fewest commands.
 """
 
@@ -163,7 +163,7 @@ def _compare_chain(bench: Bench, words: argparse.Namespace) -> Found | None:
 
 
 def _compare_sequences(bench: Bench, words: argparse.Namespace) -> Found | None:
-    """Makes scripts until they have made so many steps."""
+    """Makes scripts until they have made a number of steps."""
     first = bench.counts.steps
     number = 0
     while bench.counts.steps - first < words.steps:

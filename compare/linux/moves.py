@@ -71,7 +71,7 @@ def made_images(place: Path) -> Iterator[tuple[str, Path]]:
 
 
 def drawn_images(place: Path, seed: int, count: int) -> Iterator[tuple[str, Path]]:
-    """So many images that are drawn."""
+    """A number of images that are drawn."""
     for number in range(count):
         random = Random(f"{seed} {number}")
         layers = [_draw_layer(random) for _ in range(random.randint(2, MOST_LAYERS))]

@@ -37,7 +37,7 @@ def mounting_place() -> Iterator[str]:
 
 
 def mount_chain(place: str, number: int) -> None:
-    """Mounts a chain of so many lower layers, each over all before it. A kernel that takes fewer refuses it."""
+    """Mounts a chain of a number of lower layers, each over all before it. A kernel that takes fewer refuses it."""
     layers = Layers(place)
     try:
         parent = ""

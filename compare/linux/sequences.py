@@ -100,7 +100,7 @@ NEEDED = {
 
 @dataclass
 class Sequence:
-    """One script, of snapshots with at most so many ancestors. With `is_deep` it is a chain of as many, of few operations
+    """One script, of snapshots with at most a number of ancestors. With `is_deep` it is a chain of as many, of few operations
     each."""
 
     random: Random

@@ -49,7 +49,7 @@ class Script:
         self.out.write(json.dumps(command, separators=(",", ":"), ensure_ascii=False) + "\n")
 
     def open(self, layers: int = 1) -> None:
-        """Opens a store in which a snapshot can stand on so many layers, or on as many as it may."""
+        """Opens a store in which a snapshot can stand on a number of layers, or on as many as it may."""
         namespaces = [[ns, *self.limit] for ns in self.namespaces]
         more = {"ancestors": min(layers, MOST_ANCESTORS)} if layers > DEFAULT_ANCESTORS else {}
         self.say({"do": "open", "root": "/r", "namespaces": namespaces, "layer_inodes": MOST_INODES, **more})

@@ -55,7 +55,12 @@ func OpenOrNew(ctx context.Context, config pibroulez.Config, tenants ...string) 
 }
 
 // IsIdentity says whether a namespace is there for an identity, and is no tenant.
-func IsIdentity(namespace string) bool { return strings.HasPrefix(namespace, identityBegin) }
+func IsIdentity(namespace string) bool { return pibroulez.IsIdentity(namespace) }
+
+// IsIdentityOf says whether a namespace with this limit is an identity, and not one that somebody has made by a name like that.
+func IsIdentityOf(namespace string, limit Usage) bool {
+	return IsIdentity(namespace) && isIdentity(strings.TrimPrefix(namespace, identityBegin)) && limit == (Usage{})
+}
 
 // The identity of a store, and its tenants.
 func identityOf(quotas map[string]pibroulez.Quota) (string, []string, error) {

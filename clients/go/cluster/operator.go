@@ -86,7 +86,7 @@ func (o *Operator) SetLimit(ctx context.Context, tenant string, limit Usage) (Te
 	return o.Quota(ctx, tenant)
 }
 
-// SetShards keeps what of a tenant's limit is free in so many shards, from 1 to MostShards. Each store takes from one of
+// SetShards keeps what of a tenant's limit is free in this number of shards, from 1 to MostShards. Each store takes from one of
 // them first, so that stores at different ones don't hinder each other. Where they do, agents divide it further. It is ErrNoTenant where no limit was set, ErrBadShards
 // for another number, and ErrRestored where etcd was restored and isn't reopened.
 func (o *Operator) SetShards(ctx context.Context, tenant string, shards int) error {

@@ -318,7 +318,7 @@ func (a *Agent) next(t *tenant, quota pibroulez.Quota, lacks Usage) (Usage, erro
 	return all, nil
 }
 
-// The share of one of so many shards, which 1/shards of the stores take from first.
+// The share of one of this number of shards, which 1/shards of the stores take from first.
 func shareOfShard(share, shards uint64) uint64 {
 	if share = (share + shards - 1) / shards; share < 2 {
 		return 2

@@ -226,7 +226,7 @@ func (t *transactions) still(ctx context.Context, of *generation, tenant string,
 	return err
 }
 
-// divide keeps what is free of a tenant in so many shards, for a store that has joined. It is a transaction of a limit, with
+// divide keeps what is free of a tenant in this number of shards, for a store that has joined. It is a transaction of a limit, with
 // the one that there is. Where it is errLost nothing was written.
 func (t *transactions) divide(ctx context.Context, of *generation, store, tenant string, k *known, shards int) error {
 	next, joined := k.tenant, t.keys.joined(store)

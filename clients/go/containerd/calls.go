@@ -66,11 +66,7 @@ func (s *Snapshotter) Update(ctx context.Context, info snapshots.Info, fieldpath
 // all, what it covers is charged, the rest is told by OverLabel, Scans and the log, and the answer has both. A charge that the
 // log can't keep, as on a full disk, is no error, and is made up for by a later call.
 func (s *Snapshotter) Usage(ctx context.Context, key string) (snapshots.Usage, error) {
-	was, err := s.charged(ctx, key)
-	usage := was.charged
-	if err == nil && was.info.Kind == pibroulez.KindActive {
-		usage, err = s.scanned(ctx, was)
-	}
+	usage, err := s.usageOf(ctx, key)
 	if errors.Is(err, errNotActive) {
 		usage, err = s.store.Usage(ctx, s.namespaceOf(key), key)
 	}
@@ -160,16 +156,23 @@ func (s *Snapshotter) create(ctx context.Context, kind pibroulez.Kind, key, pare
 
 // Makes an active snapshot or a view. Its id, and those of its ancestors.
 func (s *Snapshotter) place(ctx context.Context, kind pibroulez.Kind, key, parent string, labels map[string]string) (uint64, []uint64, error) {
+	namespace := s.namespaceOf(key)
 	if kind == pibroulez.KindView {
-		made, err := s.store.View(ctx, s.namespaceOf(key), key, parent, pibroulez.WithLabels(labels))
+		var made pibroulez.Viewed
+		err := s.within(ctx, namespace, func() (err error) {
+			made, err = s.store.View(ctx, namespace, key, parent, pibroulez.WithLabels(labels))
+			return err
+		})
 		return made.ID, made.Chain, err
 	}
 	var made pibroulez.Prepared
-	err := s.charge(ctx, s.namespaceOf(key), pibroulez.Usage{Blocks: 1, Inodes: 1}, func(ctx context.Context) (err error) {
-		made, err = s.store.Prepare(ctx, s.namespaceOf(key), key, parent, pibroulez.WithLabels(labels))
-		return err
+	err := s.within(ctx, namespace, func() error {
+		return s.charge(ctx, namespace, root, func(ctx context.Context) (err error) {
+			made, err = s.store.Prepare(ctx, namespace, key, parent, pibroulez.WithLabels(labels))
+			return err
+		})
 	})
-	return made.ID, made.Chain, s.wanting(err, key, pibroulez.Usage{Blocks: 1, Inodes: 1})
+	return made.ID, made.Chain, s.wanting(err, key, root)
 }
 
 // Gives a new snapshot its directory and its time.
@@ -191,7 +194,7 @@ func (s *Snapshotter) made(ctx context.Context, r record, chain []uint64, kind p
 }
 
 // Commit commits an active snapshot, with the labels that are given, and charges what its directory has. Its directory has
-// both its key and its name before the store has the name. Where it isn't committed, it is as before but for what is charged:
+// both its key and its name before the store has the name, which is written beside the rest: each waits for the disk. Where it isn't committed, it is as before but for what is charged:
 // over the tenant's limit nothing is charged either.
 func (s *Snapshotter) Commit(ctx context.Context, name, key string, opts ...snapshots.Opt) error {
 	labels, err := labelsOf(opts)
@@ -208,11 +211,18 @@ func (s *Snapshotter) Commit(ctx context.Context, name, key string, opts ...snap
 	if err != nil {
 		return about.classified(err)
 	}
-	if err := s.record(ctx, info); err != nil {
+	named := make(chan error, 1)
+	go func() { named <- s.directories.nameIn(info.ID, key, name) }()
+	err = s.record(ctx, info)
+	if failed := <-named; failed != nil {
+		if err == nil {
+			return failed
+		}
 		return about.classified(err)
 	}
-	if err := s.directories.nameIn(info.ID, key, name); err != nil {
-		return err
+	if err != nil {
+		s.unname(ctx, info.ID, key, err)
+		return about.classified(err)
 	}
 	if _, err := s.store.Commit(ctx, s.namespaceOf(key), key, name, pibroulez.WithLabels(labels)); err != nil {
 		s.unname(ctx, info.ID, key, err)
@@ -236,13 +246,16 @@ func (s *Snapshotter) committable(ctx context.Context, about subject) (pibroulez
 	if other := s.namespaceOf(name); other != namespace {
 		return info, fmt.Errorf("snapshot %q of tenant %q is not committed as %q of another one: %w", about.key, namespace, name, errdefs.ErrInvalidArgument)
 	}
-	if !isKey(name) || about.hasMalformedLabels() {
-		return info, &pibroulez.Refusal{Reason: pibroulez.ErrBadArgument, From: "book"}
+	if !isKey(name) {
+		return info, &pibroulez.Refusal{Reason: pibroulez.ErrBadArgument, From: "book", Of: "name"}
+	}
+	if about.hasMalformedLabels() {
+		return info, &pibroulez.Refusal{Reason: pibroulez.ErrBadArgument, From: "book", Of: "labels"}
 	}
 	_, err = s.store.Stat(ctx, namespace, name)
 	switch {
 	case err == nil:
-		return info, &pibroulez.Refusal{Reason: pibroulez.ErrAlreadyExists, From: "book"}
+		return info, &pibroulez.Refusal{Reason: pibroulez.ErrAlreadyExists, From: "book", Of: "name"}
 	case errors.Is(err, pibroulez.ErrNotFound):
 		return info, nil
 	}
@@ -295,10 +308,11 @@ func (s *Snapshotter) drop(ctx context.Context, info pibroulez.Info) error {
 		return err
 	}
 	var err error
+	namespace := s.namespaceOf(info.Name)
 	if info.Kind == pibroulez.KindActive {
-		_, err = s.store.Discard(ctx, s.namespaceOf(info.Name), info.Name)
+		_, err = s.store.Discard(ctx, namespace, info.Name)
 	} else {
-		_, err = s.store.Remove(ctx, s.namespaceOf(info.Name), info.Name)
+		_, err = s.store.Remove(ctx, namespace, info.Name)
 	}
 	if err != nil && !mayBeMade(err) {
 		if err := unmarkRemoving(directory); err != nil {
@@ -311,6 +325,7 @@ func (s *Snapshotter) drop(ctx context.Context, info pibroulez.Info) error {
 	s.times.drop(info.ID)
 	s.scans.forget(info.ID)
 	s.directories.remove(info.ID)
+	s.emptied(ctx, namespace)
 	return nil
 }
 

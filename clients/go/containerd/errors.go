@@ -28,6 +28,7 @@ var classes = []struct{ err, class error }{
 	{pibroulez.ErrLayerFull, errdefs.ErrFailedPrecondition},
 	{pibroulez.ErrTooBig, errdefs.ErrFailedPrecondition},
 	{pibroulez.ErrTooManyActives, errdefs.ErrUnavailable},
+	{pibroulez.ErrTooManyNamespaces, errdefs.ErrUnavailable},
 	{pibroulez.ErrOverLimit, errdefs.ErrUnavailable},
 	{pibroulez.ErrJournalFull, errdefs.ErrUnavailable},
 	{pibroulez.ErrNumbersSpent, errdefs.ErrUnavailable},
@@ -59,6 +60,14 @@ type subject struct {
 
 // The error as one of its class too, and where the store refuses, in words of what.
 func (s subject) classified(err error) error {
+	if errors.Is(err, pibroulez.ErrNoNamespace) && s.key != "" {
+		// It is a tenant without a snapshot. A new one has its namespace made, and an operator may have removed one of those
+		// that stay.
+		if s.parent != nil {
+			return failure{err, err.Error(), errdefs.ErrFailedPrecondition}
+		}
+		return failure{err, fmt.Sprintf("snapshot %q is not found", s.key), errdefs.ErrNotFound}
+	}
 	for _, it := range classes {
 		if errors.Is(err, it.err) {
 			return failure{err, s.words(err), it.class}
@@ -69,9 +78,12 @@ func (s subject) classified(err error) error {
 
 // What the store refuses, or the error's own words.
 func (s subject) words(err error) string {
-	refusal, lacks := new(pibroulez.Refusal), new(wants)
+	refusal, lacks, no := new(pibroulez.Refusal), new(wants), new(noTenant)
 	if errors.As(err, &lacks) {
 		return lacks.Error()
+	}
+	if errors.As(err, &no) {
+		return no.Error()
 	}
 	if !errors.As(err, &refusal) {
 		return err.Error()

@@ -49,18 +49,21 @@ func (s *Snapshotter) record(ctx context.Context, info pibroulez.Info) error {
 	if err != nil {
 		return err
 	}
-	if it.Count != root {
-		if err := s.chargeFor(ctx, info.Name, it.Count); err != nil {
-			return err
-		}
-	}
 	changes, err := s.leftOver(ctx, info)
 	if err != nil {
 		return err
 	}
 	w := s.writer(ctx, info.Name, changes)
+	if it.Count != root {
+		w.need = it.Count
+	}
 	if err := w.write(it.Items, info.Parent != "" || w.isLeft); err != nil {
 		return err
+	}
+	if w.need != (pibroulez.Usage{}) {
+		if err := s.chargeFor(ctx, info.Name, w.need); err != nil {
+			return err
+		}
 	}
 	if w.count != it.Count {
 		return fmt.Errorf("%w: snapshot %q has %v there, and %v in its directory", ErrLedger, info.Name, w.count, it.Count)
@@ -70,6 +73,14 @@ func (s *Snapshotter) record(ctx context.Context, info pibroulez.Info) error {
 
 // Charges an active snapshot at least so much in all.
 func (s *Snapshotter) chargeFor(ctx context.Context, key string, need pibroulez.Usage) error {
+	return s.chargeBy(ctx, key, need, func(ctx context.Context) error {
+		_, err := s.store.Charge(ctx, s.namespaceOf(key), key, need)
+		return err
+	})
+}
+
+// Makes a call that charges an active snapshot at least so much in all.
+func (s *Snapshotter) chargeBy(ctx context.Context, key string, need pibroulez.Usage, call func(context.Context) error) error {
 	s.scans.change()
 	namespace := s.namespaceOf(key)
 	charged, err := s.store.Usage(ctx, namespace, key)
@@ -77,11 +88,7 @@ func (s *Snapshotter) chargeFor(ctx context.Context, key string, need pibroulez.
 		return err
 	}
 	more := pibroulez.Usage{Blocks: above(need.Blocks, charged.Blocks), Inodes: above(need.Inodes, charged.Inodes)}
-	err = s.charge(ctx, namespace, more, func(ctx context.Context) error {
-		_, err := s.store.Charge(ctx, namespace, key, need)
-		return err
-	})
-	return s.wanting(err, key, more)
+	return s.wanting(s.charge(ctx, namespace, more, call), key, more)
 }
 
 // What one quantity is above another one.
@@ -146,14 +153,37 @@ type writer struct {
 	bytes      int
 	// What the layer takes after the last batch.
 	count pibroulez.Usage
+	// What the first batch is to charge, or nothing.
+	need pibroulez.Usage
 }
 
 func (s *Snapshotter) writer(ctx context.Context, key string, left map[string]string) *writer {
 	w := &writer{ctx: ctx, store: s.store, namespace: s.namespaceOf(key), key: key, left: left, isLeft: len(left) > 0, count: root}
 	w.batch = func(operations []pibroulez.Operation) (pibroulez.Batched, error) {
-		return w.store.Batch(ctx, w.namespace, key, pibroulez.Usage{}, operations)
+		if w.need == (pibroulez.Usage{}) {
+			return w.store.Batch(ctx, w.namespace, key, w.need, operations)
+		}
+		return s.firstBatch(w, operations)
 	}
 	return w
+}
+
+// Carries out the first batch of a writer, which charges what all of them need. Where that is refused nothing is done.
+func (s *Snapshotter) firstBatch(w *writer, operations []pibroulez.Operation) (done pibroulez.Batched, err error) {
+	var refused *pibroulez.OperationRefused
+	err = s.chargeBy(w.ctx, w.key, w.need, func(ctx context.Context) error {
+		var err error
+		done, err = w.store.Batch(ctx, w.namespace, w.key, w.need, operations)
+		if errors.As(err, &refused) {
+			// Some operations are done, so it isn't made again.
+			return nil
+		}
+		return err
+	})
+	if w.need = (pibroulez.Usage{}); err == nil && refused != nil {
+		err = refused
+	}
+	return done, err
 }
 
 // Has the layer be what the items are. isOverSome says that something may be seen at their paths.

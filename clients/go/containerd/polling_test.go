@@ -1,6 +1,7 @@
 package containerd
 
 import (
+	"context"
 	"fmt"
 	"net"
 	"os"
@@ -9,6 +10,7 @@ import (
 	"sort"
 	"strconv"
 	"strings"
+	"sync"
 	"testing"
 	"time"
 
@@ -22,14 +24,27 @@ import (
 	"pibroulez.example/pibroulez/containerd/service"
 )
 
-// How many snapshots are asked for, how many files each has, and how many questions are asked of each: of 300 snapshots where
-// PIBROULEZ_POLLS says how many, as CRI asks them every 10 seconds.
-func polls() (snapshots, files, questions int) {
-	if count, err := strconv.Atoi(os.Getenv("PIBROULEZ_POLLS")); err == nil {
-		return 300, 100, count
+// How many snapshots are asked for, how many files each has, and how many rounds of questions there are, two of each snapshot: of
+// 300 snapshots where PIBROULEZ_POLLS says how many, as CRI asks them every 10 seconds. 16,667 are 10 million questions.
+func polls() (snapshots, files, rounds int) {
+	count, err := strconv.Atoi(os.Getenv("PIBROULEZ_POLLS"))
+	switch {
+	case err != nil:
+		return 20, 20, 10
+	case count > mostTimed:
+		return 300, 10, count
 	}
-	return 20, 20, 10
+	return 300, 100, count
 }
+
+const (
+	// How many rounds are asked of overlayfs too, one question after another.
+	mostTimed = 100
+	// By how many callers at once further ones are asked here.
+	mostCallers = 4
+	// By how many bytes this process may grow.
+	mostGrowth = 64 << 20
+)
 
 // A snapshotter as containerd has one behind a proxy.
 func behindProxy(t *testing.T, s snapshots.Snapshotter) snapshots.Snapshotter {
@@ -65,7 +80,11 @@ func median(all []time.Duration) time.Duration {
 // proxy is told, and depends on what else the machine does.
 func TestPolling(t *testing.T) {
 	requiresRoot(t)
-	count, files, questions := polls()
+	count, files, rounds := polls()
+	timed := rounds
+	if timed > mostTimed {
+		timed = mostTimed
+	}
 	root := rootInMemory(t)
 	own := newSnapshotter(t, root)
 	theirs, err := overlay.NewSnapshotter(rootInMemory(t))
@@ -99,26 +118,56 @@ func TestPolling(t *testing.T) {
 		ask("here", key)
 		ask("overlayfs", key)
 	}
-	took = map[string][]time.Duration{"here": make([]time.Duration, 0, count*questions), "overlayfs": make([]time.Duration, 0, count*questions)}
+	took = map[string][]time.Duration{"here": make([]time.Duration, 0, count*timed), "overlayfs": make([]time.Duration, 0, count*timed)}
 	debug.FreeOSMemory()
 	log, store, here := logSize(t, root), residentSize(t, own.store.PID()), residentSize(t, os.Getpid())
-	for n := 0; n < questions; n++ {
+	stays := func(when string) {
+		t.Helper()
+		debug.FreeOSMemory()
+		sizes := [3]int64{logSize(t, root), residentSize(t, own.store.PID()), residentSize(t, os.Getpid())}
+		t.Logf("%s: the log has %d bytes, the store %d KiB, this process %d KiB", when, sizes[0], sizes[1]>>10, sizes[2]>>10)
+		if sizes[0] != log || sizes[1] > store+1<<20 || sizes[2] > here+mostGrowth {
+			t.Errorf("%s: %v, and %v at the begin", when, sizes, [3]int64{log, store, here})
+		}
+	}
+	stays("at the begin")
+	for n := 0; n < timed; n++ {
 		for _, key := range keys {
 			ask("here", key)
 			ask("overlayfs", key)
 		}
 	}
-	debug.FreeOSMemory()
-	if after := logSize(t, root); after != log {
-		t.Errorf("the log has %d bytes, and had %d", after, log)
-	}
-	if after := residentSize(t, own.store.PID()); after > store+1<<20 {
-		t.Errorf("the store has %d bytes, and had %d", after, store)
-	}
-	if after := residentSize(t, os.Getpid()); after > here+64<<20 {
-		t.Errorf("this process has %d bytes, and had %d", after, here)
-	}
+	further := (rounds - timed) / 2
+	askMany(t, both["here"], called, keys, 1+files, further)
+	stays("in the middle")
+	askMany(t, both["here"], called, keys, 1+files, rounds-timed-further)
+	stays("at the end")
 	ours, other := median(took["here"]), median(took["overlayfs"])
-	t.Logf("%d questions of %d snapshots: %v here and %v of overlayfs in the middle; 99 of 100 within %v and %v", count*questions, count, ours, other,
-		took["here"][len(took["here"])*99/100], took["overlayfs"][len(took["overlayfs"])*99/100])
+	t.Logf("%d questions of %d snapshots: a usage and a status take %v here and %v of overlayfs in the middle; 99 of 100 within %v and %v",
+		2*count*rounds, count, ours, other, took["here"][len(took["here"])*99/100], took["overlayfs"][len(took["overlayfs"])*99/100])
+}
+
+// Asks for a usage and a status of each of these snapshots in so many rounds, by some callers at once.
+func askMany(t *testing.T, s snapshots.Snapshotter, called context.Context, keys []string, inodes, rounds int) {
+	t.Helper()
+	var callers sync.WaitGroup
+	for caller := 0; caller < mostCallers; caller++ {
+		caller := caller
+		callers.Add(1)
+		go func() {
+			defer callers.Done()
+			for n := caller; n < rounds*len(keys); n += mostCallers {
+				key := keys[n%len(keys)]
+				it, err := s.Usage(called, key)
+				if err == nil {
+					_, err = s.Stat(called, key)
+				}
+				if err != nil || it.Inodes != int64(inodes) {
+					t.Errorf("%s: %v, %v", key, it, err)
+					return
+				}
+			}
+		}()
+	}
+	callers.Wait()
 }

@@ -60,7 +60,10 @@ type scans struct {
 	trimmed map[uint64]pibroulez.Usage
 	// The snapshots whose last charge has failed.
 	failing map[uint64]bool
-	told    Scans
+	// The ids of active snapshots that were read, by their keys, so that a directory is read beside the next question.
+	ids  map[string]uint64
+	keys map[uint64]string
+	told Scans
 }
 
 // A snapshot's scans: the one that runs, and the one that is to run after it, or nil.
@@ -74,7 +77,7 @@ type scan struct {
 	usage pibroulez.Usage
 	err   error
 	// What was so before.
-	before before
+	before *question
 }
 
 // What the store had of an active snapshot, and how many changes there were before it was asked.
@@ -82,6 +85,24 @@ type before struct {
 	info    pibroulez.Info
 	charged pibroulez.Usage
 	changes uint64
+}
+
+// A question for that on its way.
+type question struct {
+	// Is closed once there is an answer.
+	done chan struct{}
+	was  before
+	err  error
+}
+
+// Waits for the answer.
+func (q *question) answer(ctx context.Context) (before, error) {
+	select {
+	case <-q.done:
+		return q.was, q.err
+	case <-ctx.Done():
+		return q.was, ctx.Err()
+	}
 }
 
 type overOf struct {
@@ -92,6 +113,7 @@ type overOf struct {
 func newScans() *scans {
 	s := &scans{
 		turns: make(chan struct{}, mostScans), of: map[uint64]*pair{}, over: map[uint64]overOf{}, trimmed: map[uint64]pibroulez.Usage{}, failing: map[uint64]bool{},
+		ids: map[string]uint64{}, keys: map[uint64]string{},
 	}
 	s.ended = sync.NewCond(&s.mutex)
 	s.ctx, s.stop = context.WithCancel(context.Background())
@@ -100,19 +122,19 @@ func newScans() *scans {
 
 // The scan of a snapshot that hasn't begun: a new one, or one that others wait for. It is carried out by read, between turns
 // of all scans, and then by use.
-func (s *scans) ask(was before, read, use func(*scan)) (*scan, error) {
+func (s *scans) ask(id uint64, was *question, read, use func(*scan)) (*scan, error) {
 	s.mutex.Lock()
 	defer s.mutex.Unlock()
 	if s.ctx.Err() != nil {
 		return nil, pibroulez.ErrClosed
 	}
-	both := s.of[was.info.ID]
+	both := s.of[id]
 	switch {
 	case both == nil:
 		both = &pair{now: &scan{done: make(chan struct{}), before: was}}
-		s.of[was.info.ID] = both
+		s.of[id] = both
 		s.running++
-		go s.run(was.info.ID, both, read, use)
+		go s.run(id, both, read, use)
 		return both.now, nil
 	case !both.now.hasBegun:
 		s.told.Shared++
@@ -200,6 +222,37 @@ func (s *scans) forget(id uint64) {
 	delete(s.over, id)
 	delete(s.trimmed, id)
 	delete(s.failing, id)
+	s.unknowAlone(id)
+}
+
+// Forgets the key of a snapshot that isn't active.
+func (s *scans) unknow(id uint64) {
+	s.mutex.Lock()
+	defer s.mutex.Unlock()
+	s.unknowAlone(id)
+}
+
+// Does so where the mutex is had.
+func (s *scans) unknowAlone(id uint64) {
+	if key, isKnown := s.keys[id]; isKnown && s.ids[key] == id {
+		delete(s.ids, key)
+	}
+	delete(s.keys, id)
+}
+
+// The id that a key had when its directory was read last.
+func (s *scans) idOf(key string) (uint64, bool) {
+	s.mutex.Lock()
+	defer s.mutex.Unlock()
+	id, isKnown := s.ids[key]
+	return id, isKnown
+}
+
+// Takes note of the id of an active snapshot.
+func (s *scans) know(key string, id uint64) {
+	s.mutex.Lock()
+	defer s.mutex.Unlock()
+	s.ids[key], s.keys[id] = id, key
 }
 
 // Takes note of whether a snapshot's charge has failed. Whether it is the first that has.
@@ -243,9 +296,9 @@ func (s *Snapshotter) Scans() Scans {
 // The error of a scan whose snapshot isn't active any more.
 var errNotActive = errors.New("not active any more")
 
-// What the store has of a snapshot and charges for it, asked by two lines at once.
-func (s *Snapshotter) charged(ctx context.Context, key string) (before, error) {
-	was := before{changes: s.scans.changed()}
+// Asks what the store has of a snapshot and charges for it, by two lines at once.
+func (s *Snapshotter) askCharged(ctx context.Context, key string) (*question, error) {
+	q := &question{done: make(chan struct{}), was: before{changes: s.scans.changed()}}
 	var sent [2]*pibroulez.Sent
 	for n, do := range []string{"stat", "usage"} {
 		line, err := lineOf(do, map[string]any{"ns": s.namespaceOf(key), "key": key, "quiet": true})
@@ -253,47 +306,85 @@ func (s *Snapshotter) charged(ctx context.Context, key string) (before, error) {
 			sent[n], err = s.store.Send(ctx, line)
 		}
 		if err != nil {
-			return was, err
+			return nil, err
 		}
 	}
-	var info struct{ Info pibroulez.Info }
-	var usage struct{ Usage pibroulez.Usage }
-	err := sent[0].Take(ctx, &info)
-	if err == nil {
-		err = sent[1].Take(ctx, &usage)
-	}
-	was.info, was.charged = info.Info, usage.Usage
-	return was, err
+	go func() {
+		var info struct{ Info pibroulez.Info }
+		var usage struct{ Usage pibroulez.Usage }
+		if q.err = sent[0].Take(s.scans.ctx, &info); q.err == nil {
+			q.err = sent[1].Take(s.scans.ctx, &usage)
+		}
+		if q.err != nil && s.scans.ctx.Err() != nil {
+			q.err = pibroulez.ErrClosed
+		}
+		q.was.info, q.was.charged = info.Info, usage.Usage
+		close(q.done)
+	}()
+	return q, nil
 }
 
-// Reads the directory of an active snapshot, after the call has begun, and charges what it has. What that is, or what is
-// charged where that is more. Any number of callers share one reading.
-func (s *Snapshotter) scanned(ctx context.Context, was before) (pibroulez.Usage, error) {
+// What an active snapshot has by its directory, or what is charged where that is more. What is charged for another one.
+func (s *Snapshotter) usageOf(ctx context.Context, key string) (pibroulez.Usage, error) {
+	q, err := s.askCharged(ctx, key)
+	if err != nil {
+		return pibroulez.Usage{}, err
+	}
+	var reading *scan
+	id, isKnown := s.scans.idOf(key)
+	if isKnown {
+		// It is mostly the same still, so its directory is read beside the question.
+		if reading, err = s.scanned(id, q); err != nil {
+			return pibroulez.Usage{}, err
+		}
+	}
+	was, err := q.answer(ctx)
+	if err != nil || was.info.Kind != pibroulez.KindActive {
+		return was.charged, err
+	}
+	if !isKnown || was.info.ID != id {
+		s.scans.know(key, was.info.ID)
+		if reading, err = s.scanned(was.info.ID, q); err != nil {
+			return pibroulez.Usage{}, err
+		}
+	}
+	select {
+	case <-reading.done:
+		return reading.usage, reading.err
+	case <-ctx.Done():
+		return pibroulez.Usage{}, ctx.Err()
+	}
+}
+
+// Has the directory of a snapshot read, after the call has begun, and, where the snapshot is active by a question's answer,
+// charged what it has. Any number of callers share one reading.
+func (s *Snapshotter) scanned(id uint64, q *question) (*scan, error) {
 	read := func(it *scan) {
-		it.usage, it.err = upper.Count(s.scans.ctx, s.directories.upperOf(was.info.ID))
+		it.usage, it.err = upper.Count(s.scans.ctx, s.directories.upperOf(id))
 		if errors.Is(it.err, fs.ErrNotExist) {
 			// A full disk has not taken its directory, or it goes.
 			it.usage, it.err = root, nil
 		}
 	}
 	use := func(it *scan) {
+		was, err := it.before.answer(s.scans.ctx)
+		if err == nil && (was.info.ID != id || was.info.Kind != pibroulez.KindActive) {
+			err = errNotActive
+		}
 		if it.err == nil {
-			it.usage, it.err = s.settle(s.scans.ctx, it.before, it.usage)
+			it.err = err
+		}
+		if it.err == nil {
+			it.usage, it.err = s.settle(s.scans.ctx, was, it.usage)
+		}
+		if errors.Is(it.err, errNotActive) {
+			s.scans.unknow(id)
 		}
 		if s.scans.ctx.Err() != nil && it.err != nil {
 			it.err = pibroulez.ErrClosed
 		}
 	}
-	it, err := s.scans.ask(was, read, use)
-	if err != nil {
-		return pibroulez.Usage{}, err
-	}
-	select {
-	case <-it.done:
-		return it.usage, it.err
-	case <-ctx.Done():
-		return pibroulez.Usage{}, ctx.Err()
-	}
+	return s.scans.ask(id, q, read, use)
 }
 
 // Has an active snapshot charged what was found in its directory, or what it reserves where that is more, as far as its
@@ -457,7 +548,7 @@ func (s *Snapshotter) findOver(ctx context.Context) error {
 			}
 			return nil
 		})
-		if err != nil {
+		if err != nil && !isGone(err, namespace) {
 			return err
 		}
 	}

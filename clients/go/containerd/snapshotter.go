@@ -51,8 +51,13 @@ type Config struct {
 	Store *pibroulez.Store
 	// Tenants are the namespaces of containerd that are namespaces of the store too: each has the snapshots whose keys begin
 	// with its name and a slash, as containerd makes them. Their limits are those of a store of the snapshotter's own that
-	// is new; any other store has to have them already.
+	// is new; any other store has to have them already. None of them is removed.
 	Tenants map[string]pibroulez.Usage
+	// Each is the limit of each other namespace of containerd, which is made one of the store with its first snapshot and
+	// removed with its last, or nil where all of these share Namespace. It isn't for a store of a cluster.
+	Each *pibroulez.Usage
+	// Others are namespaces of the store with which containerd has nothing to do: its own of these names share Namespace.
+	Others []string
 	// Charge makes a call that charges a namespace of the store so much more, as one that first gets a limit of a cluster
 	// for it, or is nil where the call is made as it is. The call may be made again where it was pibroulez.ErrOverLimit.
 	Charge func(ctx context.Context, namespace string, more pibroulez.Usage, call func(context.Context) error) error
@@ -65,7 +70,7 @@ type Snapshotter struct {
 	store *pibroulez.Store
 	// Whether others use the store too.
 	isShared    bool
-	tenants     map[string]pibroulez.Usage
+	tenants     *tenants
 	directories *directories
 	times       *times
 	locks       locks
@@ -107,7 +112,7 @@ func New(ctx context.Context, config Config) (*Snapshotter, error) {
 	s := &Snapshotter{
 		store:       store,
 		isShared:    config.Store != nil,
-		tenants:     config.Tenants,
+		tenants:     newTenants(config),
 		directories: directories,
 		locks:       locks{held: map[string]*lock{}},
 		options:     overlayOptions(root),
@@ -226,7 +231,7 @@ func ageOfShared(ctx context.Context, store *pibroulez.Store, directories *direc
 // Compares the directories with the store, and then has each snapshot's there and no other, and begins a new round of the
 // journal. On a full disk it does of this what needs no room.
 func (s *Snapshotter) begin(ctx context.Context, config Config, root string, age rootAge) error {
-	if err := s.hasTenants(ctx); err != nil {
+	if err := s.findTenants(ctx); err != nil {
 		return err
 	}
 	// A program of version 0.1.0 takes no question without an entry: it is a fault, and nothing is changed.

@@ -43,6 +43,9 @@ func limit(ctx context.Context, store *pibroulez.Store, given words) (answer, er
 }
 
 func tenantAdd(ctx context.Context, store *pibroulez.Store, given words) (answer, error) {
+	if pibroulez.IsIdentity(given.rest[1]) {
+		return answer{}, fmt.Errorf("%w: %q is a name for the identity of a store, and no tenant's", errWords, given.rest[1])
+	}
 	usage, err := usageOf(given.rest[2])
 	if err != nil {
 		return answer{}, err

@@ -145,7 +145,7 @@ func read(args []string) (words, error) {
 	return given, given.check(flags)
 }
 
-// Whether there is such a command, with so many words and these options.
+// Whether there is such a command, with this number of words and these options.
 func (w words) check(flags *flag.FlagSet) error {
 	if len(w.rest) == 0 {
 		return fmt.Errorf("%w: no command", errWords)

@@ -228,6 +228,7 @@ func TestRefusals(t *testing.T) {
 		{[]string{"limit", "a", "1/1"}, 1, "BelowCharge"},
 		{[]string{"tenant-add", "a", "1/1"}, 1, "NamespaceExists"},
 		{[]string{"tenant-add", "c", "1"}, 2, `"1" is no BLOCKS/INODES`},
+		{[]string{"tenant-add", "pibroulez-store-x", "1/1"}, 2, `"pibroulez-store-x" is a name for the identity of a store`},
 		{[]string{"tenant-remove", "a"}, 1, "NotEmpty"},
 		{[]string{"tenant-remove", "none"}, 1, "NoNamespace"},
 		{[]string{"tree", "none"}, 1, "NoNamespace"},

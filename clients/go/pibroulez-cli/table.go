@@ -50,7 +50,7 @@ func init() {
 			"sets a tenant's limit, also below what is granted: tells what is to come back, and from whom",
 		}, onCluster(clusterLimit)},
 		{"cluster shards", "TENANT NUMBER", nil, true, []string{
-			"keeps what is free of its limit in so many shards (1 to 64), so that many nodes don't hinder each other",
+			"keeps what is free of its limit in this number of shards (1 to 64), so that many nodes don't hinder each other",
 		}, onCluster(clusterShards)},
 		{"cluster nodes", "", nil, true, []string{"the stores, whether their agents answer, and what they are granted"}, onCluster(clusterNodes)},
 		{"cluster forget", "STORE --data-destroyed", []string{"data-destroyed"}, true, []string{

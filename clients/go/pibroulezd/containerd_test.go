@@ -199,3 +199,88 @@ func TestOverLimit(t *testing.T) {
 	ask(1, "", "pibroulez_scans_total 2", `pibroulez_tenant_charged{quantity="blocks",tenant="a"} 2`)
 	it.end(t)
 }
+
+const each = "[containerd.each]\nblocks = 9\ninodes = 9\n"
+
+// The tenants that the store has, with their limits.
+func (p place) quotas(t *testing.T) map[string]pibroulez.Usage {
+	t.Helper()
+	quotas, err := p.connect(t).Quotas(ctx)
+	granted(t, err)
+	limits := map[string]pibroulez.Usage{}
+	for name, it := range quotas {
+		limits[name] = it.Limit
+	}
+	delete(limits, containerd.Namespace)
+	return limits
+}
+
+// Each namespace of containerd is a tenant while it has a snapshot, with the limit of the file: also after a start, after kills
+// between the two that belong together, and where the file changes. A limit that somebody else has set stays.
+func TestEachNamespace(t *testing.T) {
+	p := newPlace(t)
+	whole := p.containerd() + each + p.lines() + roles("operator")
+	p.configure(t, whole+"[tenants.listed]\nblocks = 5\ninodes = 5\ncontainerd = true\n"+tenant("b", 3, 3))
+	it := p.start(t)
+	called := namespaces.WithNamespace(ctx, "test")
+	s := p.snapshotter(t)
+	want := map[string]pibroulez.Usage{"listed": usage(5, 5), "b": usage(3, 3)}
+	expect := func() {
+		t.Helper()
+		equal(t, p.quotas(t), want)
+	}
+	prepare := func(key string) {
+		t.Helper()
+		_, err := s.Prepare(called, key, "")
+		granted(t, err)
+	}
+	expect()
+	for _, key := range []string{"x/1/k", "y/1/k", "b/1/k", "listed/1/k"} {
+		prepare(key)
+	}
+	want["x"], want["y"] = usage(9, 9), usage(9, 9)
+	expect()
+	granted(t, p.connect(t).Limit(ctx, "y", usage(77, 77)))
+	want["y"] = usage(77, 77)
+
+	// The file takes one in, leaves one out, has other limits, and a name that is containerd's for another.
+	p.configure(t, strings.Replace(whole, "blocks = 9", "blocks = 8", 1)+"[tenants.x]\nblocks = 6\ninodes = 6\ncontainerd = true\n"+tenant("y", 1, 1)+"users = [7]\n"+tenant("b", 3, 3))
+	it.readAgain(t)
+	want["x"], want["listed"] = usage(6, 6), usage(8, 9)
+	expect()
+	granted(t, s.Remove(called, "x/1/k"))
+	granted(t, s.Remove(called, "listed/1/k"))
+	delete(want, "listed")
+	expect()
+	it.end(t)
+	for _, words := range []string{`"the tenant stays containerd's, and has no members" error="namespace \"y\": snapshots of this name are another's" tenant=y`, `"tenant made" limit=9/9 tenant=x`, `"tenant removed" tenant=listed`} {
+		if !strings.Contains(it.said.String(), words) {
+			t.Errorf("not told: %s in %s", words, it.said)
+		}
+	}
+
+	// What a kill leaves: a tenant without its first snapshot, or with none any more. And one that was unlisted meanwhile.
+	store, err := pibroulez.Open(ctx, program(), p.path("root/calls.jsonl"))
+	granted(t, err)
+	granted(t, store.NamespaceCreate(ctx, "killed", usage(9, 9)))
+	granted(t, store.NamespaceCreate(ctx, "pibroulez-store-x", usage(9, 9)))
+	granted(t, store.Close())
+	p.configure(t, whole+tenant("b", 3, 3))
+	it = p.start(t)
+	s = p.snapshotter(t)
+	delete(want, "x")
+	expect()
+	prepare("x/1/k")
+	granted(t, it.Process.Kill())
+	<-it.ended
+	it = p.start(t)
+	s = p.snapshotter(t)
+	want["x"] = usage(9, 9)
+	expect()
+	granted(t, s.Remove(called, "x/1/k"))
+	granted(t, s.Remove(called, "y/1/k"))
+	delete(want, "x")
+	delete(want, "y")
+	expect()
+	it.end(t)
+}

@@ -173,6 +173,7 @@ func (d *daemon) readAgain(ctx context.Context) {
 	for _, it := range refused {
 		d.log.WithField("fault", it.Error()).Error("refused")
 	}
+	d.reserve(ctx, next)
 	// Whoever has lost a role has lost it before the tenants and their limits change.
 	d.current.Store(next)
 	if next.Cluster == nil {

@@ -15,6 +15,7 @@ import (
 	"pibroulez.example/pibroulez/pibroulezd/door"
 	"pibroulez.example/pibroulez/pibroulezd/watch"
 	"pibroulez.example/pibroulez/socket"
+	"pibroulez.example/pibroulez/told"
 )
 
 // The modes of the folder of a socket, where it is made, of containerd's socket, and of that for who watches. Others than
@@ -106,12 +107,8 @@ func (d *daemon) observeCall(call string, took time.Duration) {
 
 func (d *daemon) openContainerd(ctx context.Context, c *configuration.Configuration) error {
 	var err error
-	config := containerd.Config{Root: c.Root, Store: d.store, Tenants: map[string]pibroulez.Usage{}, Charge: d.node.chargeOfContainerd()}
-	for name, tenant := range c.Tenants {
-		if tenant.IsContainerds {
-			config.Tenants[name] = tenant.Limit
-		}
-	}
+	config := containerd.Config{Root: c.Root, Store: d.store, Each: c.Containerd.Each, Charge: d.node.chargeOfContainerd()}
+	config.Tenants, config.Others = tenantsOf(c)
 	if d.snapshotter, err = containerd.New(ctx, config); err != nil {
 		return fmt.Errorf("no snapshotter of %s: %w", c.Root, err)
 	}
@@ -143,6 +140,19 @@ func (d *daemon) openLines(c *configuration.Configuration) error {
 	d.log.WithField("socket", c.Lines.Socket).Info("lines")
 	go d.end(func() error { return d.lines.Serve(listener) })
 	return nil
+}
+
+// The tenants of containerd that a file names, with their limits, and the others.
+func tenantsOf(c *configuration.Configuration) (containerds map[string]pibroulez.Usage, others []string) {
+	containerds = map[string]pibroulez.Usage{}
+	for _, name := range told.Sorted(c.Tenants) {
+		if it := c.Tenants[name]; it.IsContainerds {
+			containerds[name] = it.Limit
+		} else {
+			others = append(others, name)
+		}
+	}
+	return containerds, others
 }
 
 // Serves a door, and has the daemon end where it fails.

@@ -60,6 +60,7 @@ func (l *limits) apply(ctx context.Context, store *pibroulez.Store, c *configura
 		told.Info("limit")
 		l.give(name, limit)
 	}
+	l.applyEach(ctx, store, c)
 	if !l.hasChanged {
 		return
 	}
@@ -68,6 +69,46 @@ func (l *limits) apply(ctx context.Context, store *pibroulez.Store, c *configura
 		return
 	}
 	l.hasChanged = false
+}
+
+// The name by which the file has the limit of each tenant of containerd that isn't named. No tenant has it.
+const ofEach = ""
+
+// Gives each tenant of containerd that the configuration doesn't name the limit of these where that is another one than before:
+// those that had it, and those that were named before.
+func (l *limits) applyEach(ctx context.Context, store *pibroulez.Store, c *configuration.Configuration) {
+	if c.Containerd == nil || c.Containerd.Each == nil {
+		l.forget(ofEach)
+		return
+	}
+	quotas, err := store.Quotas(ctx)
+	if err != nil {
+		l.log.WithError(err).Error("the old limits of containerd's other tenants stay")
+		return
+	}
+	each, isWhole := *c.Containerd.Each, true
+	last, isGiven := l.given[ofEach]
+	for _, name := range told.Sorted(quotas) {
+		given, wasNamed := l.given[name]
+		_, isNamed := c.Tenants[name]
+		if isNamed || pibroulez.IsIdentity(name) || !wasNamed && (!isGiven || quotas[name].Limit != last) {
+			continue
+		}
+		if wasNamed && given == quotas[name].Limit || !wasNamed && last != each {
+			err := store.Limit(ctx, name, each)
+			if told := l.log.WithField("tenant", name).WithField("limit", each.String()); err == nil {
+				told.Info("limit")
+			} else if !errors.Is(err, pibroulez.ErrNoNamespace) {
+				told.WithError(err).Error("the old limit stays")
+				isWhole = false
+				continue
+			}
+		}
+		l.forget(name)
+	}
+	if isWhole && (!isGiven || last != each) {
+		l.give(ofEach, each)
+	}
 }
 
 // The store has this limit of the configuration.

@@ -8,18 +8,23 @@ import (
 
 	"pibroulez.example/pibroulez"
 	"pibroulez.example/pibroulez/cluster"
+	"pibroulez.example/pibroulez/containerd"
 	"pibroulez.example/pibroulez/pibroulezd/configuration"
 	"pibroulez.example/pibroulez/told"
 )
 
 // At a start, makes the store's tenants those of the configuration. The error tells which can't be made, and which
 // others stay, since they have snapshots or leases. In a cluster each other one does: etcd has what was granted for it.
+// Where each namespace of containerd is a tenant, others are left to its door.
 func (d *daemon) beginTenants(ctx context.Context, c *configuration.Configuration) error {
 	quotas, err := d.store.Quotas(ctx)
 	if err != nil {
 		return err
 	}
 	others, isOfCluster := othersOf(quotas, c)
+	if c.Containerd != nil && c.Containerd.Each != nil {
+		others = identitiesOf(others)
+	}
 	switch {
 	case c.Cluster != nil && !isOfCluster:
 		return fmt.Errorf("cluster: %w", cluster.ErrNoIdentity)
@@ -57,20 +62,77 @@ func (d *daemon) changeTenants(ctx context.Context, c *configuration.Configurati
 		return
 	}
 	others, _ := othersOf(quotas, c)
+	if d.hasEach() {
+		others = d.changeContainerds(ctx, c, others)
+	}
 	d.tellRefused("the tenant stays, and has no members", d.removeTenants(ctx, others))
 	d.tellRefused("the tenant isn't made", d.makeTenants(ctx, quotas, c))
 	d.limits.apply(ctx, d.store, c)
 }
 
+// Whether each namespace of containerd is a tenant.
+func (d *daemon) hasEach() bool {
+	it := d.current.Load().Containerd
+	return d.snapshotter != nil && it != nil && it.Each != nil
+}
+
+// Where each namespace of containerd is a tenant, has the door for it have those of the file with their limits. Of the
+// other namespaces of the store, those are answered that aren't containerd's.
+func (d *daemon) changeContainerds(ctx context.Context, c *configuration.Configuration, others []string) (anothers []string) {
+	containerds, _ := tenantsOf(c)
+	taken, err := d.snapshotter.SetTenants(ctx, containerds, *c.Containerd.Each)
+	if err != nil {
+		d.log.WithError(err).Error("tenants of containerd without snapshots stay")
+	}
+	for _, name := range taken {
+		d.log.WithField("tenant", name).WithError(containerd.ErrTaken).Error("the tenant is none of containerd's before the next start")
+	}
+	for _, name := range others {
+		if !d.snapshotter.HasTenant(name) {
+			anothers = append(anothers, name)
+		}
+	}
+	return anothers
+}
+
+// Where each namespace of containerd is a tenant, takes those of a file out of it that are to be another's, and were not
+// before, but are containerd's: nobody calls on its snapshots.
+func (d *daemon) reserve(ctx context.Context, next *configuration.Configuration) {
+	if !d.hasEach() {
+		return
+	}
+	old := d.current.Load()
+	_, others := tenantsOf(next)
+	for _, name := range others {
+		if it, wasThere := old.Tenants[name]; wasThere && !it.IsContainerds {
+			continue
+		}
+		if err := d.snapshotter.Reserve(ctx, name); err != nil {
+			d.log.WithField("tenant", name).WithError(err).Error("the tenant stays containerd's, and has no members")
+			delete(next.Tenants, name)
+		}
+	}
+}
+
 // The namespaces of a store that are no tenants of the configuration, and whether one is the identity of a store of a cluster.
 func othersOf(quotas map[string]pibroulez.Quota, c *configuration.Configuration) (others []string, isOfCluster bool) {
 	for _, name := range told.Sorted(quotas) {
-		isOfCluster = isOfCluster || cluster.IsIdentity(name)
+		isOfCluster = isOfCluster || cluster.IsIdentityOf(name, quotas[name].Limit)
 		if _, isTenant := c.Tenants[name]; !isTenant {
 			others = append(others, name)
 		}
 	}
 	return others, isOfCluster
+}
+
+// Those of some namespaces that have the name of an identity.
+func identitiesOf(names []string) (found []string) {
+	for _, name := range names {
+		if cluster.IsIdentity(name) {
+			found = append(found, name)
+		}
+	}
+	return found
 }
 
 // Removes tenants. Those that are refused stay as they are, and are answered with why.
@@ -99,7 +161,12 @@ func (d *daemon) makeTenants(ctx context.Context, quotas map[string]pibroulez.Qu
 		if c.Cluster != nil {
 			limit = pibroulez.Usage{}
 		}
-		if err := d.store.NamespaceCreate(ctx, name, limit); err != nil {
+		err := d.store.NamespaceCreate(ctx, name, limit)
+		if errors.Is(err, pibroulez.ErrNamespaceExists) && c.Tenants[name].IsContainerds {
+			// The door has made it meanwhile.
+			continue
+		}
+		if err != nil {
 			refused[name] = err
 			continue
 		}

@@ -199,15 +199,17 @@ class Files(Calls):
         need: Pair,
         operations: Sequence[Mapping[str, object]],
         *,
+        whole: bool = False,
         session: int | None = None,
     ) -> Batched:
         """Charges what is needed, and carries out operations in order, each the fields of a file command with its word
         `do` and without `ns`, `key` and `extra`.
 
         One that needs more than is charged makes a charge of its own. Raises OperationRefused at the first that is
-        refused: those before it are done. Where the charge is refused, that is raised, and nothing is done.
+        refused: those before it are done, or with `whole` none, and the layer is as it was. Where the charge is refused,
+        that is raised, and nothing is done.
         """
-        answer = self._call("batch", session, ns=namespace, key=key, need=need, ops=operations)
+        answer = self._call("batch", session, ns=namespace, key=key, need=need, ops=operations, whole=whole or None)
         return batched_in(answer)
 
     def unpack(
@@ -218,10 +220,11 @@ class Files(Calls):
         *,
         bounds: Bounds | None = None,
         operations: int = MOST_OPERATIONS,
+        whole: bool = False,
         session: int | None = None,
     ) -> Unpacked:
-        """Makes the layer of a new active snapshot by a layer's archive (tar, without compression), in batches of so
-        many operations that are charged what all need.
+        """Makes the layer of a new active snapshot by a layer's archive (tar, without compression), in batches of
+        `operations` that are charged what all need.
 
         Whiteouts (`.wh.NAME`) and opaque marks (`.wh..wh..opq`) come first, since they hide what lower layers show and
         nothing of their own (OCI image specification, "Whiteouts"). An entry takes the place of what is seen at its path,
@@ -230,7 +233,8 @@ class Files(Calls):
 
         The store is asked what lower layers show, and nothing is made before the archive is read. Raises NotEmpty where
         the layer has more than its root, and `images.bounds.Unreadable` for an archive that can't be read or is beyond
-        the bounds. Where an operation is refused, that is raised: those before it are done.
+        the bounds. Where an operation is refused, that is raised: those before it are done, with `whole` those of the
+        batches before.
         """
         last = self.batch(namespace, key, (0, 0), [], session=session)
         if last.count != (1, 1):
@@ -244,7 +248,7 @@ class Files(Calls):
         lines.seek(0)
         for group in grouped(lines, operations):
             given = [json.loads(line) for line in group]
-            last = self.batch(namespace, key, (tree.blocks, tree.inodes), given, session=session)
+            last = self.batch(namespace, key, (tree.blocks, tree.inodes), given, whole=whole, session=session)
         return Unpacked(last.count, last.share, dict(left_out))
 
     # Lookups, which make no entry
@@ -276,7 +280,7 @@ class Files(Calls):
     def read_part(
         self, namespace: str, key: str, path: str, offset: int = 0, max: int | None = None, peek: bool = False
     ) -> Part | SizedContent:
-        """The bytes of a file from an offset on, at most so many, or all, and its size; of one whose bytes aren't kept
+        """The bytes of a file from an offset on, at most this number, or all, and its size; of one whose bytes aren't kept
         its size and its digest."""
         answer = self._call("read", ns=namespace, key=key, path=path, offset=offset, max=max, peek=peek or None)
         if "digest" in answer:

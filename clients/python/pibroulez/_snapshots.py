@@ -67,11 +67,11 @@ class Snapshots(Calls):
         return number
 
     def reopen(self, journal: int | None = None) -> None:
-        """Begins the next round of the journal, of at most so many entries. No snapshot may be active."""
+        """Begins the next round of the journal, of at most this number of entries. No snapshot may be active."""
         self._call("reopen", journal=journal)
 
     def roll(self, journal: int | None = None) -> None:
-        """Begins the next round of the journal, of at most so many entries. Active snapshots stay as they are."""
+        """Begins the next round of the journal, of at most this number of entries. Active snapshots stay as they are."""
         self._call("roll", journal=journal)
 
     # Snapshots

@@ -13,12 +13,17 @@ class Error(Exception):
 
 class Refused(Error):
     """The store has refused a call. `source` is `book`, `world`, `file` for an error of a file, or `log`, and `door` or
-    `cluster` for a refusal of a daemon."""
+    `cluster` for a refusal of a daemon.
 
-    def __init__(self, name: str, source: str) -> None:
-        super().__init__(name, source)
+    `of` is the field of the call that it is about, by its name in a line (docs/SCRIPT.md), as `parent` where a new
+    snapshot's parent isn't found, and None where no field alone is the cause.
+    """
+
+    def __init__(self, name: str, source: str, of: str | None = None) -> None:
+        super().__init__(name, source, of)
         self.name = name
         self.source = source
+        self.of = of
 
     def __str__(self) -> str:
         return f"{self.name} (from {self.source})"
@@ -27,12 +32,12 @@ class Refused(Error):
 class BadArgument(Refused):
     """A key, name, lease, label, limit or page is malformed, or a field of `open`.
 
-    `field` is the first malformed field of `open`, where a store is refused for it, and else None.
+    `field` is the first malformed field of `open`, where a store is refused for it, and else None. It is `of`, too.
     """
 
-    def __init__(self, name: str, source: str, field: str | None = None) -> None:
-        super().__init__(name, source)
-        self.args = (name, source, field)
+    def __init__(self, name: str, source: str, field: str | None = None, of: str | None = None) -> None:
+        super().__init__(name, source, of or field)
+        self.args = (name, source, field, of)
         self.field = field
 
 
@@ -98,9 +103,9 @@ class OverLimit(Refused):
     `words` say why the cluster of a daemon has no room, and who has some; else they are empty.
     """
 
-    def __init__(self, name: str, source: str, free: Usage, words: str = "") -> None:
-        super().__init__(name, source)
-        self.args = (name, source, free, words)
+    def __init__(self, name: str, source: str, free: Usage, words: str = "", of: str | None = None) -> None:
+        super().__init__(name, source, of)
+        self.args = (name, source, free, words, of)
         self.free = free
         self.words = words
 
@@ -200,7 +205,8 @@ class NotKept(Refused):
 
 
 class OperationRefused(Error):
-    """An operation of a batch was refused. Those before it are done, as `batch` tells, and no later one is.
+    """An operation of a batch was refused. Those before it are done, as `batch` tells, or none, where it is whole; and no
+    later one is.
 
     `number` is the operation's, from 1, and `why` the refusal.
     """
@@ -303,12 +309,13 @@ _REFUSALS: Mapping[str, Type[Refused]] = {each.__name__: each for each in Refuse
 
 def refusal_in(answer: Mapping[str, Any]) -> Refused:
     """The refusal that an answer with an `error` tells."""
-    name, source = answer["error"], answer["from"]
+    name, source, of = answer["error"], answer["from"], answer.get("of")
     if "free" in answer:
-        return OverLimit(name, source, Usage(*answer["free"]), answer.get("words", ""))
-    if "field" in answer:
-        return BadArgument(name, source, answer["field"])
-    return _REFUSALS.get(name, Refused)(name, source)
+        return OverLimit(name, source, Usage(*answer["free"]), answer.get("words", ""), of)
+    kind = _REFUSALS.get(name, Refused)
+    if kind is BadArgument:
+        return BadArgument(name, source, answer.get("field"), of)
+    return kind(name, source, of)
 
 
 def error_in(answer: Mapping[str, Any]) -> Error | None:

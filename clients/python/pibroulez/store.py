@@ -225,7 +225,7 @@ class Store(Snapshots, Files):
         return self._connection.pid
 
     def close(self, seconds: float = END_SECONDS) -> None:
-        """Ends the process, once it has answered all calls that were made. Where it hasn't ended after so many seconds,
+        """Ends the process, once it has answered all calls that were made. Where it hasn't ended after this number of seconds,
         it is killed, and the calls that wait raise Died. Later calls raise Died; a second close does nothing."""
         self._connection.close(seconds)
 
@@ -259,7 +259,7 @@ class Store(Snapshots, Files):
                 rolled = self._begin_round_after(rounds)
 
     def _begin_round_after(self, rounds: int) -> bool:
-        """Begins a round where none was begun since so many. Whether it has."""
+        """Begins a round where none was begun since there were this many. Whether it has."""
         with self._round:
             if self._rounds != rounds:
                 return False

@@ -22,7 +22,7 @@ use std::alloc::{AllocError, Global};
 /// Where a new snapshot goes.
 #[derive(Clone, Copy)]
 pub struct Vacancy {
-    /// The place of its namespace among those of the configuration, from 0.
+    /// The place of its namespace among those of the store, from 0.
     pub place: usize,
     /// The lowest free slot of the store.
     pub slot: u64,

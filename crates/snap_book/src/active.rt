@@ -1,5 +1,5 @@
 // Open snapshots in their writers' hands. They have to be spent.
-ghost use Rattle.std.specs.Prelude.{◌≡◌, ◌<◌, IfOk, IfErr};
+ghost use Rattle.std.specs.Prelude.{◌≡◌, ◌<◌, IfOk, IfErr, OnOk, OnErr};
 ghost use Rattle.snap_usage.specs.Counted.{Covers, count_of};
 ghost use Rattle.snap_ledger.specs.States.{CoversOne, minus};
 ghost use Rattle.snap_call.specs.Records.{max_slots};
@@ -92,7 +92,7 @@ pub enum Held<N: StoreName> {
 }
 
 impl<N: StoreName> Active<N> {
-    /// The place of its namespace among those of the configuration, from 0.
+    /// The place of its namespace among those of the store, from 0.
     pub fn namespace(&self) -> usize
         ensures { result ≡ self.now.namespace }
     {
@@ -153,6 +153,24 @@ impl<N: StoreName> Active<N> {
         difference(self.share(), self.count())
     }
 
+    /// Puts the layer in place of its own, which is dropped, where the share covers the layer's count. Where it
+    /// doesn't, the layer comes back, and the snapshot is as it was. The share stays.
+    ///
+    /// Takes no memory. The cost is that of dropping a layer.
+    pub fn put_layer(&mut self, layer: Layer) -> Result<(), Layer>
+        ensures ok { OnOk result (self.new ≡ record self.old { layer = layer }) }
+        ensures covers { OnOk result (Covers self.old.share.usage (count_of layer)) }
+        ensures back { IfErr result (λ back. back ≡ layer) }
+        ensures same { OnErr result (self.new ≡ self.old) }
+        ensures lacks { OnErr result (¬ Covers self.old.share.usage (count_of layer)) }
+    {
+        if !self.share().covers(count(&layer)) {
+            return Err(layer);
+        }
+        self.layer = layer;
+        Ok(())
+    }
+
     /// The same snapshot, whose layer does not change any more. Where memory is refused it comes back
     /// unchanged. The cost is constant.
     pub fn seal(self) -> Result<Sealed<N>, (NoMemory, Active<N>)>
@@ -194,7 +212,7 @@ impl<N: StoreName> Active<N> {
 }
 
 impl<N: StoreName> Sealed<N> {
-    /// The place of its namespace among those of the configuration, from 0.
+    /// The place of its namespace among those of the store, from 0.
     pub fn namespace(&self) -> usize
         ensures { result ≡ self.now.namespace }
     {

@@ -224,7 +224,7 @@ impl<N: StoreName> Book<N> {
         self.accounts.total(place)
     }
 
-    /// The name of the namespace at a place among those of the configuration, from 0; no text past the last
+    /// The name of the namespace at a place among those of the store, from 0; no text past the last
     /// one. Takes no memory. The cost is constant.
     pub fn namespace_at(&self, place: usize) -> &str
         ensures { result.now ≡ name_at place self.now.state.namespaces }

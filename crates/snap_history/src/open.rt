@@ -11,7 +11,7 @@ use snap_usage::Usage;
 use std::alloc::{AllocError, Global};
 use std::marker::Model;
 
-/// What an open snapshot is charged, and the place of its namespace among those of the configuration, from 0.
+/// What an open snapshot is charged, and the place of its namespace among those of the store, from 0.
 #[derive(Clone, Copy)]
 pub(crate) struct OpenShare {
     pub(crate) namespace: usize,

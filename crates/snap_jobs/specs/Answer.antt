@@ -1,5 +1,5 @@
 -- What a run of jobs is answered.
-use Rattle.std.specs.Prelude.{◌≡◌, ◌⊎◌, ◌<◌, ℕ, Bool, true, false, ◌&&◌, not, List, [], ◌++◌, length, map, take, Option, Some, None, unwrap_or}
+use Rattle.std.specs.Prelude.{◌≡◌, ◌⊎◌, ◌<◌, ℕ, Bool, true, false, ◌&&◌, not, if◌then◌else◌, List, [], ◌++◌, length, map, take, Option, Some, None, unwrap_or}
 use Rattle.std.specs.Io.KnownBytes.{Appends, Consumes}
 use Rattle.std.specs.List.{count_by}
 use Rattle.std.specs.Option.{option_map}
@@ -29,7 +29,8 @@ use Rattle.snap_lines.specs.declared.stop.Stop.TheVariants.{Line, InputFailed, O
 use Rattle.snap_jobs.specs.declared.run.JobOptions.{JobOptions}
 use Rattle.snap_jobs.specs.declared.stop.JobsStop.{JobsStop}
 use Rattle.snap_jobs.specs.declared.stop.JobsStop.TheVariants.{Lines, NotClosed, WantOfMemory}
-use Rattle.snap_jobs.specs.Ends.{end_lines, wants_memory}
+use Rattle.snap_jobs.specs.Asked.{answers_text}
+use Rattle.snap_jobs.specs.Ends.{end_lines, end_told, wants_memory}
 use Rattle.snap_jobs.specs.Lines.{ReadValue, jobs_effect, jobs_transcript, unread}
 
 -- a job that was committed
@@ -59,22 +60,21 @@ abbrev pub answer_of : List Ended → BookValue → List Bytes → Answer
 answer_of ends book names = Jobs (count_by is_job_committed ends) (count_by is_discarded ends) (count_by is_refused ends) (book_totals_of book names)
 
 -- the lines of the jobs' ends, where they are told
-abbrev pub ends_text : Bool → List Ended → List ℕ
-ends_text true ends = end_lines 1 ends
-ends_text false ends = []
+abbrev pub ends_text : JobOptions → List Job → List Ended → List ℕ
+ends_text options jobs ends = if options.ends then end_lines (end_told options.fields jobs) 1 ends else []
 
--- the text is that of some report of the jobs, by so many workers on a store of this round, of whom none was stopped: the jobs' ends, where they are told, and last the line of the answer. So many jobs lacked memory
-pub record IsTextOf (options : JobOptions) (r : Round) (jobs : List Job) (names : List Bytes) (lacking : ℕ) (text : List ℕ) : Type 0 where
+-- the text is that of some report of the jobs, by so many workers on a store of this round, of whom none was stopped: the jobs' ends, where they are told, the answers to the questions, of the closed store, and last the line of the answer. So many jobs lacked memory
+pub record IsTextOf (options : JobOptions) (read : ReadValue) (lacking : ℕ) (text : List ℕ) : Type 0 where
   pub ends : List Ended
   pub closed : BookValue
-  pub report : IsReport (λ worker. ⊥) r jobs options.workers ends closed
+  pub report : IsReport (λ worker. ⊥) read.round read.jobs options.workers ends closed
   pub count : lacking ≡ count_by wants_memory ends
-  pub lines : text ≡ ends_text options.ends ends ++ answer_line (answer_of ends closed names)
+  pub lines : text ≡ ends_text options read.jobs ends ++ (answers_text options.fields closed.state read.questions ++ answer_line (answer_of ends closed read.names))
 
 -- what is written, by what was read: nothing where no line has opened a store, and else the text of a report of the jobs, of which so many lacked memory
 abbrev pub IsText : JobOptions → Option ReadValue → ℕ → List ℕ → Type 0
 IsText options None lacking text = (lacking ≡ 0) × (text ≡ [])
-IsText options (Some read) lacking text = IsTextOf options read.round read.jobs read.names lacking text
+IsText options (Some read) lacking text = IsTextOf options read lacking text
 
 -- the text is written
 abbrev pub HasWritten : JobOptions → Option ReadValue → ℕ → Option (List ℕ) → Option (List ℕ) → Type 0

@@ -10,7 +10,7 @@ use Rattle.snap_script.specs.declared.fault.Found.TheVariants.{Text}
 use Rattle.snap_script.specs.declared.fault.Fault.{Fault}
 use Rattle.snap_script.specs.declared.fault.Fault.TheVariants.{BadField}
 use Rattle.snap_script.specs.declared.unknown.FieldRule.{FieldRule}
-use Rattle.snap_script.specs.Fields.{text, optional, given, as_usage}
+use Rattle.snap_script.specs.Fields.{text, optional, given, as_labels, as_usage}
 use Rattle.snap_script.specs.Known.{known_job}
 use Rattle.snap_script.specs.Commands.{named}
 use Rattle.snap_script.specs.Operations.{operations}
@@ -20,7 +20,7 @@ use Rattle.snap_writers.specs.declared.job.Job.{Job}
 
 -- a job's end that is a commit
 abbrev pub commit_end_of : Data → Result End Fault
-commit_end_of line = do Ok (ends.Commit (← text fields.Name line) (← given as_str fields.Lease line))
+commit_end_of line = do Ok (ends.Commit (← text fields.Name line) (← given as_str fields.Lease line) (← given as_labels fields.Labels line))
 
 -- a job's end by its word
 abbrev pub end_by : List ℕ → Data → Result End Fault

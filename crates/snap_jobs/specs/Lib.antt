@@ -1,3 +1,4 @@
+pub mod Asked
 pub mod Jobs
 pub mod Lines
 pub mod Ends

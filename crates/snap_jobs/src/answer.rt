@@ -2,14 +2,17 @@
 ghost use Rattle.std.specs.Prelude.{◌≡◌, ◌++◌, IfOk, string_bytes};
 ghost use Rattle.std.specs.List.{count_by};
 ghost use Rattle.snap_script.specs.Answers.{answer_line};
+ghost use Rattle.snap_jobs.specs.Asked.{answers_text};
 ghost use Rattle.snap_jobs.specs.Answer.{is_job_committed, is_discarded, is_refused, book_total_of, book_totals_of, answer_of, ends_text};
 
+use crate::asked::{Asked, answers_text};
 use crate::ends::end_lines;
+use crate::run::JobOptions;
 use snap_record::{Sequence, Text};
 use snap_script::Answer;
 use snap_store::{Closed, RoundName};
 use snap_usage::Usage;
-use snap_writers::{Ended, Report};
+use snap_writers::{Ended, Job, Report};
 use std::alloc::{AllocError, Global};
 
 fn is_committed(end: Ended) -> bool
@@ -97,27 +100,37 @@ fn answer_of<N: RoundName>(
 }
 
 // The lines of the jobs' ends, where they are told.
-fn ends_text(alloc: Global, told: bool, ends: &[Ended]) -> Result<String, AllocError>
-    ensures { IfOk result (λ text. string_bytes text ≡ ends_text told ends.now) }
+fn ends_text(
+    alloc: Global,
+    options: JobOptions,
+    jobs: &[Job],
+    ends: &[Ended],
+) -> Result<String, AllocError>
+    ensures { IfOk result (λ text. string_bytes text ≡ ends_text options jobs.now ends.now) }
 {
-    if told {
-        end_lines(alloc, ends)
+    if options.ends {
+        end_lines(alloc, options.fields, jobs, ends)
     } else {
         Ok(String::new(alloc))
     }
 }
 
-// The text of a run of jobs: their ends, where they are told, and last the line of the answer.
+// The text of a run of jobs: their ends, where they are told, the answers to the questions, and last the line of the
+// answer.
 pub(crate) fn text_of<N: RoundName>(
     alloc: Global,
-    told: bool,
+    options: JobOptions,
+    jobs: &[Job],
     report: &Report<N>,
     names: &[Text],
+    questions: &[Asked],
 ) -> Result<String, AllocError>
-    ensures { IfOk result (λ text. string_bytes text ≡ ends_text told report.now.ends
-        ++ answer_line (answer_of report.now.ends report.now.closed names.now)) }
+    ensures { IfOk result (λ text. string_bytes text ≡ ends_text options jobs.now report.now.ends
+        ++ (answers_text options.fields report.now.closed.state questions.now ++ answer_line (answer_of report.now.ends report.now.closed names.now))) }
 {
-    let mut text = ends_text(alloc, told, report.ends.as_slice())?;
+    let mut text = ends_text(alloc, options, jobs, report.ends.as_slice())?;
+    let answers = answers_text(alloc, options.fields, &report.closed, questions)?;
+    text.push_str(answers.as_str())?;
     let line = answer_of(alloc, report, names)?.line(alloc)?;
     text.push_str(line.as_str())?;
     Ok(text)

@@ -4,7 +4,8 @@ ghost use Rattle.snap_json.specs.View.{view};
 ghost use Rattle.snap_script.specs.Gives.{Gives};
 ghost use Rattle.snap_jobs.specs.Lines.{opened_as, read_with, there, unread};
 
-use crate::job::job_of;
+use crate::asked::Asked;
+use crate::job::{JobLine, job_line_of};
 use snap_call::{Config, Refusal};
 use snap_json::Scratch;
 use snap_lines::TakeLine;
@@ -16,15 +17,16 @@ use snap_writers::Job;
 use std::alloc::Global;
 use std::marker::Model;
 
-/// The most jobs of a script.
+/// The most jobs of a script, and the most questions.
 pub const MAX_JOBS: usize = 65_536;
 
-// The store that the first line has opened, the names of its namespaces, and the jobs.
+// The store that the first line has opened, the names of its namespaces, the jobs, and the questions.
 #[derive(Drop)]
 pub(crate) struct Read<N: RoundName> {
     pub(crate) store: Store<N>,
     pub(crate) names: Sequence<Text>,
     pub(crate) jobs: Vec<Job>,
+    pub(crate) questions: Vec<Asked>,
 }
 
 impl<N: RoundName> Model for Read<N> {
@@ -32,7 +34,7 @@ impl<N: RoundName> Model for Read<N> {
 
     ghost Value = { ReadValue };
 
-    ghost view = { λ s. record { round = s.store; names = s.names; jobs = s.jobs.items } };
+    ghost view = { λ s. record { round = s.store; names = s.names; jobs = s.jobs.items; questions = s.questions.items } };
 }
 
 /// What was read of a script of jobs. Contracts see which fields its lines may have, and nothing else, or, once the first
@@ -96,6 +98,7 @@ impl<N: RoundName> JobLines<N> {
                     store,
                     names,
                     jobs: Vec::new(alloc),
+                    questions: Vec::new(alloc),
                 });
                 Ok(())
             }
@@ -129,27 +132,31 @@ impl<N: RoundName> JobLines<N> {
 }
 
 impl<N: RoundName> Read<N> {
-    // Takes the line of a job.
+    // Takes the line of a job or of a question.
     #[tactic(auto, unfolding(crate::specs::Lines::read_with))]
-    fn take_job(&mut self, alloc: Global, rule: FieldRule, line: &[u8]) -> Result<(), ReadError>
+    fn take_next(&mut self, alloc: Global, rule: FieldRule, line: &[u8]) -> Result<(), ReadError>
         ensures { Gives (λ _. self.new) result (read_with rule (Some self.old) line.now) }
     {
-        if self.jobs.len() >= MAX_JOBS {
+        if self.jobs.len() >= MAX_JOBS || self.questions.len() >= MAX_JOBS {
             return Err(ReadError::Fault(Fault::TooLong));
         }
         let mut scratch = Scratch::new(alloc);
         let line = read_object(alloc, line, &mut scratch)?;
-        let job = job_of(alloc, rule, &line)?;
-        self.jobs.push(job)?;
+        match job_line_of(alloc, rule, &line)? {
+            JobLine::Job(job) => self.jobs.push(job)?,
+            JobLine::Asked(asked) => self.questions.push(asked)?,
+        }
         Ok(())
     }
 }
 
-/// Takes the lines of a script of jobs. None has an answer: the jobs are run once all lines are read.
+/// Takes the lines of a script of jobs. None has an answer: the jobs are run, and the questions asked, once all lines
+/// are read.
 ///
 /// The first line that isn't empty has the faults of `open`, and last `BadOpen` where the configuration is
-/// malformed. The line of a job has `TooLong` where 65,536 jobs were read; then `NotJson`, `NotAnObject`,
-/// `UnknownField` where not any field may stand, and `BadField` with the first of its fields, or `Operation` with the
+/// malformed. Each later line has `TooLong` where 65,536 jobs were read, or as many questions; then `NotJson`,
+/// `NotAnObject`. A line whose `do` is `stat`, `usage`, `mounts` or `walk`, and whose `quiet` is true, is a question,
+/// and has the faults of that command in a script. Every other one is a job, and has `UnknownField` where not any field may stand, and `BadField` with the first of its fields, or `Operation` with the
 /// first of its operations that has a fault. Where any field may stand, each fault is brief. `OutOfMemory` where memory
 /// was refused.
 ///
@@ -166,7 +173,7 @@ impl<N: RoundName> TakeLine for JobLines<N> {
         }
         let read = match &mut self.read {
             None => self.read_first(alloc, line),
-            Some(read) => read.take_job(alloc, self.fields, line),
+            Some(read) => read.take_next(alloc, self.fields, line),
         };
         match read {
             Ok(()) => Ok(None),

@@ -104,7 +104,7 @@ impl Told {
     }
 }
 
-// Runs the jobs, and gives what they came to, with their ends where these are told.
+// Runs the jobs, and gives what they came to, with their ends where these are told, and the answers to the questions.
 fn told_of<N: RoundName + Send + Sync, T: Threads + Wait + Sync>(
     rt: &T,
     alloc: Global,
@@ -112,13 +112,25 @@ fn told_of<N: RoundName + Send + Sync, T: Threads + Wait + Sync>(
     options: JobOptions,
 ) -> Result<Told, JobsStop>
     requires { (1 ≤ options.workers) × (options.workers ≤ 16) }
-    ensures text { IfOk result (λ told. IsTextOf options read.round read.jobs read.names told.lacking (string_bytes told.text)) }
+    ensures text { IfOk result (λ told. IsTextOf options read told.lacking (string_bytes told.text)) }
     ensures all { IfOk result (λ told. told.all ≡ length read.jobs) }
     ensures stop { IfErr result (λ stop. HasNoReport options.workers read.round read.jobs stop) }
 {
-    let Read { store, names, jobs } = read;
+    let Read {
+        store,
+        names,
+        jobs,
+        questions,
+    } = read;
     let report = report_of(rt, alloc, store, jobs.as_slice(), options.workers)?;
-    let text = text_of(alloc, options.ends, &report, names.as_slice())?;
+    let text = text_of(
+        alloc,
+        options,
+        jobs.as_slice(),
+        &report,
+        names.as_slice(),
+        questions.as_slice(),
+    )?;
     Ok(Told {
         text,
         lacking: lacking(report.ends.as_slice()) as u64,
@@ -197,7 +209,8 @@ fn run<N: RoundName + Send + Sync, T: Threads + Wait + Sync, R: Input, W: Write>
 /// each on a thread of its own, closes the store, and writes one line: how many jobs were committed, how many were
 /// discarded as they asked, how many ended otherwise, and what each namespace is charged. With `ends` a line for
 /// each job comes before it, in the order of the jobs, which tells how the job ended. Nothing is written before
-/// all jobs have ended, and nothing at all where the input has no line but empty ones.
+/// all jobs have ended, and nothing at all where the input has no line but empty ones. Questions are asked of the
+/// closed store, and the lines of their answers come between the ends and the last line, in order.
 ///
 /// Where it ends well, and the input and the output tell their bytes, no line has a fault, no job lacked memory,
 /// and what was written is the text of a report of the jobs that were read, with the names of their store. Where it

@@ -15,16 +15,12 @@ use Rattle.snap_record.specs.declared.info.Info.{Info}
 use Rattle.snap_mount.specs.declared.mount.Mount.{Mount}
 use Rattle.snap_mount.specs.Mounts.{mount_kind_word}
 use Rattle.snap_call.specs.declared.config.ConfigField.{ConfigField}
-use Rattle.snap_call.specs.declared.config.ConfigField.TheVariants as config_fields
-use Rattle.snap_call.specs.declared.refusal.Refusal.{Refusal}
 use Rattle.snap_call.specs.declared.refusal.Refusal.TheVariants as refusals
 use Rattle.snap_call.specs.declared.reply.Reply.{Reply}
 use Rattle.snap_call.specs.declared.reply.Reply.TheVariants as replies
 use Rattle.snap_history.specs.Entries.{call_word}
 use Rattle.snap_diff.specs.Changes.{change_word}
 use Rattle.snap_diff.specs.declared.change.Change.{Change}
-use Rattle.snap_merge.specs.declared.error.FsError.{FsError}
-use Rattle.snap_merge.specs.declared.error.FsError.TheVariants as errors
 use Rattle.snap_script.specs.declared.answer.Shown.{Shown}
 use Rattle.snap_script.specs.declared.answer.Shown.TheVariants as shown
 use Rattle.snap_script.specs.declared.answer.QuotaInfo.{QuotaInfo}
@@ -35,68 +31,11 @@ use Rattle.snap_script.specs.declared.refused.Refused.{Refused}
 use Rattle.snap_script.specs.declared.refused.Refused.TheVariants as refused
 use Rattle.snap_script.specs.declared.answer.Answer.{Answer}
 use Rattle.snap_script.specs.declared.answer.Answer.TheVariants as answers
+use Rattle.snap_script.specs.declared.fault.Field.{Field}
 use Rattle.snap_script.specs.declared.unknown.FieldRule.{FieldRule}
 use Rattle.snap_script.specs.declared.unknown.FieldRule.TheVariants as rules
-
--- the name of each refusal
-abbrev pub refusal_name : Refusal → List ℕ
-refusal_name refusals.BadArgument = codes "BadArgument"
-refusal_name refusals.NoNamespace = codes "NoNamespace"
-refusal_name refusals.NamespaceExists = codes "NamespaceExists"
-refusal_name refusals.TooManyNamespaces = codes "TooManyNamespaces"
-refusal_name refusals.NotEmpty = codes "NotEmpty"
-refusal_name refusals.NotFound = codes "NotFound"
-refusal_name refusals.AlreadyExists = codes "AlreadyExists"
-refusal_name refusals.NotCommitted = codes "NotCommitted"
-refusal_name refusals.NotActive = codes "NotActive"
-refusal_name refusals.HasChildren = codes "HasChildren"
-refusal_name refusals.InUse = codes "InUse"
-refusal_name refusals.Leased = codes "Leased"
-refusal_name refusals.NoLease = codes "NoLease"
-refusal_name refusals.LeaseExists = codes "LeaseExists"
-refusal_name refusals.TooDeep = codes "TooDeep"
-refusal_name refusals.TooManyActives = codes "TooManyActives"
-refusal_name (refusals.OverLimit free_blocks free_inodes) = codes "OverLimit"
-refusal_name refusals.BelowCharge = codes "BelowCharge"
-refusal_name refusals.NumbersSpent = codes "NumbersSpent"
-refusal_name refusals.JournalFull = codes "JournalFull"
-refusal_name (refusals.OutOfMemory want) = codes "OutOfMemory"
-
--- the name of each error of a file call
-abbrev pub error_name : FsError → List ℕ
-error_name errors.BadPath = codes "BadPath"
-error_name errors.NotFound = codes "NotFound"
-error_name errors.NotDir = codes "NotDir"
-error_name errors.IsDir = codes "IsDir"
-error_name errors.Exists = codes "Exists"
-error_name errors.NotEmpty = codes "NotEmpty"
-error_name errors.CrossDevice = codes "CrossDevice"
-error_name errors.Invalid = codes "Invalid"
-error_name errors.NotPermitted = codes "NotPermitted"
-error_name errors.TooBig = codes "TooBig"
-error_name errors.LayerFull = codes "LayerFull"
-error_name (errors.NeedsCharge after) = codes "NeedsCharge"
-error_name errors.TooManyLinks = codes "TooManyLinks"
-error_name (errors.OutOfMemory want) = codes "OutOfMemory"
-
--- the name of a refusal, as its answer has it
-abbrev pub refused_name : Refused → List ℕ
-refused_name (refused.Book why) = refusal_name why
-refused_name (refused.File error) = error_name error
-refused_name refused.NoSession = codes "NoSession"
-refused_name refused.NoHand = codes "NoHand"
-refused_name refused.StillOut = codes "StillOut"
-
--- where it is from, as its answer has it
-abbrev pub refused_from : Refused → List ℕ
-refused_from (refused.Book why) = codes "book"
-refused_from (refused.File error) = codes "file"
-refused_from why = codes "world"
-
--- what the namespace has free, where a call was over its limit
-abbrev pub free_at_refusal : Refused → Option Usage
-free_at_refusal (refused.Book (refusals.OverLimit free_blocks free_inodes)) = Some (record { blocks = free_blocks; inodes = free_inodes })
-free_at_refusal why = None
+use Rattle.snap_script.specs.Faults.{field_name}
+use Rattle.snap_script.specs.Refusals.{config_field_name, free_at_refusal, refusal_name, refused_from, refused_name}
 
 -- a number that isn't negative
 abbrev pub number_data : ℕ → Data
@@ -132,19 +71,17 @@ mount_data mount = object
     (member (codes "options") (array (items_of (map string mount.options)))
     (member (codes "source") (string mount.source) (only (codes "type") (string (mount_kind_word mount.kind)))))
 
--- an error, and where it comes from
-abbrev pub error_data : List ℕ → List ℕ → Data
-error_data name from = object (member (codes "error") (string name) (only (codes "from") (string from)))
+-- a member that may be absent, before the others
+abbrev pub maybe : List ℕ → Option Data → Members → Members
+maybe key value rest = option_map_or (λ it. member key it rest) value rest
 
--- the parts of a configuration as the fields of `open`; no line gives the first id
-abbrev pub config_field_name : ConfigField → List ℕ
-config_field_name config_fields.Root = codes "root"
-config_field_name config_fields.Namespaces = codes "namespaces"
-config_field_name config_fields.Slots = codes "slots"
-config_field_name config_fields.Journal = codes "journal"
-config_field_name config_fields.FirstId = codes "first_id"
-config_field_name config_fields.LayerInodes = codes "layer_inodes"
-config_field_name config_fields.Ancestors = codes "ancestors"
+-- a refusal: its name, over the limit what is free, where it is from, and the field that it is about, where that is told
+abbrev pub refusal_data : Refused → Option Field → Data
+refusal_data why of = object
+    (member (codes "error") (string (refused_name why))
+    (maybe (codes "free") (option_map usage_data (free_at_refusal why))
+    (member (codes "from") (string (refused_from why))
+    (maybe (codes "of") (option_map (λ field. string (field_name field)) of) no_members))))
 
 -- the refusal of a store, with the field that is malformed
 abbrev pub bad_config_data : ConfigField → Data
@@ -194,10 +131,6 @@ quota_data quota = object
     (member (codes "open") (usage_data quota.active)
     (only (codes "spare") (usage_data quota.spare)))))))
 
--- a member that may be absent, before the others
-abbrev pub maybe : List ℕ → Option Data → Members → Members
-maybe key value rest = option_map_or (λ it. member key it rest) value rest
-
 -- a lease with the names in their order, without a last moment where it has none
 abbrev pub lease_data : ToldLease → Data
 lease_data lease = object
@@ -236,16 +169,12 @@ reply_data (replies.Swept removed leases freed) = object
     (member (codes "freed") (usage_data freed)
     (member (codes "leases") (number_data leases)
     (only (codes "removed") (array (items_of (map string removed))))))
-reply_data (replies.Refused (refusals.OverLimit free_blocks free_inodes)) = object
-    (member (codes "error") (string (codes "OverLimit"))
-    (member (codes "free") (usage_data (record { blocks = free_blocks; inodes = free_inodes }))
-    (only (codes "from") (string (codes "book")))))
-reply_data (replies.Refused refusal) = error_data (refusal_name refusal) (codes "book")
+reply_data (replies.Refused why) = refusal_data (refused.Book why) None
 reply_data replies.Opened = object (only (codes "ok") (boolean true))
 reply_data replies.Trimmed = object (only (codes "ok") (boolean true))
 reply_data replies.Done = object (only (codes "ok") (boolean true))
 
--- how far a batch came: how many operations were done, and the layer's count and the snapshot's charge after them; and where one was refused, why, over the limit with what is free, and which, from 1
+-- how far a batch came: how many operations were done, and the layer's count and the snapshot's charge after them; and where one was refused, why, over the limit with what is free, with the field that it is about, where that is told, and which, from 1
 abbrev pub batch_data : ℕ → Usage → Usage → Option RefusedOperation → Data
 batch_data done count share None = object
     (member (codes "count") (usage_data count)
@@ -257,8 +186,9 @@ batch_data done count share (Some operation) = object
     (member (codes "error") (string (refused_name operation.why))
     (maybe (codes "free") (option_map usage_data (free_at_refusal operation.why))
     (member (codes "from") (string (refused_from operation.why))
+    (maybe (codes "of") (option_map (λ field. string (field_name field)) operation.of)
     (member (codes "op") (number_data operation.number)
-    (only (codes "share") (usage_data share))))))))
+    (only (codes "share") (usage_data share)))))))))
 
 -- an answer: a reply has its own data, and the bytes of a file are in lower hexadecimal
 abbrev pub answer_data : Answer → Data
@@ -290,14 +220,21 @@ answer_data (answers.Jobs committed discarded refused totals) = object
     (member (codes "refused") (number_data refused)
     (only (codes "totals") (object (members_with_entries usage_data totals no_members))))))
 answer_data (answers.BadConfig field) = bad_config_data field
-answer_data (answers.Failed error) = error_data (error_name error) (codes "file")
-answer_data answers.NoSession = error_data (codes "NoSession") (codes "world")
-answer_data answers.NoHand = error_data (codes "NoHand") (codes "world")
-answer_data answers.StillOut = error_data (codes "StillOut") (codes "world")
+answer_data (answers.Failed error) = refusal_data (refused.File error) None
+answer_data answers.NoSession = refusal_data refused.NoSession None
+answer_data answers.NoHand = refusal_data refused.NoHand None
+answer_data answers.StillOut = refusal_data refused.StillOut None
+answer_data (answers.Refused why of) = refusal_data why of
 
--- the refusal of a store without the field
+-- a refused operation without the field that it is about
+abbrev pub brief_operation : RefusedOperation → RefusedOperation
+brief_operation operation = record { number = operation.number; why = operation.why; of = None }
+
+-- the answer without the field that a refusal is about
 abbrev pub brief_answer : Answer → Answer
 brief_answer (answers.BadConfig field) = answers.Reply (replies.Refused refusals.BadArgument)
+brief_answer (answers.Refused why of) = answers.Refused why None
+brief_answer (answers.Batch done count share stopped) = answers.Batch done count share (option_map brief_operation stopped)
 brief_answer answer = answer
 
 -- the answer as the rule tells it: where any field may stand, a refusal is brief

@@ -100,9 +100,9 @@ lookup_of lookup_verbs.Read line = do Ok (read_asked (← given as_natural field
 lookup_of lookup_verbs.Resolve line = Ok lookups.Resolve
 lookup_of lookup_verbs.Usage line = Ok lookups.Usage
 
--- a batch on a snapshot s: what it charges, and the operations, as a job has them
+-- a batch on a snapshot s: what it charges, the operations, as a job has them, and whether all are done or none
 unfoldable pub batch_of : FieldRule → Data → Result Command Fault
-batch_of rule line = do s ← named line; need ← required as_usage fields.Need line; Ok (commands.Batch s.0 s.1 need (← operations rule line))
+batch_of rule line = do s ← named line; need ← required as_usage fields.Need line; ops ← operations rule line; Ok (commands.Batch s.0 s.1 need ops (← optional as_bool fields.Whole (Ok false) line))
 
 -- the question for a snapshot's changes
 unfoldable pub diff_of : Data → Result Command Fault

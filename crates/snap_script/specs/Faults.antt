@@ -12,7 +12,7 @@ use Rattle.snap_script.specs.declared.fault.ReadError.{ReadError}
 use Rattle.snap_script.specs.declared.fault.ReadError.TheVariants as errors
 use Rattle.snap_script.specs.declared.unknown.FieldRule.{FieldRule}
 use Rattle.snap_script.specs.declared.unknown.FieldRule.TheVariants as rules
-use Rattle.snap_script.specs.Answers.{config_field_name, refused_name}
+use Rattle.snap_script.specs.Refusals.{config_field_name, refused_name}
 
 -- a field's name, as it stands in a line
 abbrev pub field_name : Field → List ℕ
@@ -44,6 +44,7 @@ field_name fields.Chain = codes "chain"
 field_name fields.Quiet = codes "quiet"
 field_name fields.Full = codes "full"
 field_name fields.Peek = codes "peek"
+field_name fields.Whole = codes "whole"
 field_name fields.Blocks = codes "blocks"
 field_name fields.Inodes = codes "inodes"
 field_name fields.Path = codes "path"
@@ -80,6 +81,7 @@ wanted fields.Chain = (Truth, codes "true or false")
 wanted fields.Quiet = (Truth, codes "true or false")
 wanted fields.Full = (Truth, codes "true or false")
 wanted fields.Peek = (Truth, codes "true or false")
+wanted fields.Whole = (Truth, codes "true or false")
 wanted fields.Do = (Text, codes "the word of a command, in a job that of a file command,")
 wanted fields.After = (Text, codes "a text in a walk or a diff, a number of digits alone below 2^64 in a journal")
 wanted fields.Kind = (Text, codes "View, Active or Committed")

@@ -64,7 +64,7 @@ fields_of (verbs.Call kinds.LeaseDrop) = fields.Namespace ∷ fields.Lease ∷ f
 fields_of (verbs.Call kinds.LeaseRelease) = fields.Namespace ∷ fields.Lease ∷ []
 fields_of (verbs.Call kinds.Sweep) = fields.Namespace ∷ fields.Moment ∷ fields.Try ∷ []
 fields_of (verbs.File verb) = fields.Namespace ∷ fields.Key ∷ fields.Extra ∷ operation_fields verb
-fields_of verbs.Batch = fields.Namespace ∷ fields.Key ∷ fields.Need ∷ fields.Ops ∷ []
+fields_of verbs.Batch = fields.Namespace ∷ fields.Key ∷ fields.Need ∷ fields.Ops ∷ fields.Whole ∷ []
 fields_of (verbs.Lookup lookup_verbs.Look) = fields.Namespace ∷ fields.Key ∷ fields.Path ∷ fields.Peek ∷ []
 fields_of (verbs.Lookup lookup_verbs.List) = fields.Namespace ∷ fields.Key ∷ fields.Path ∷ fields.Peek ∷ []
 fields_of (verbs.Lookup lookup_verbs.Read) = fields.Namespace ∷ fields.Key ∷ fields.Path ∷ fields.Peek ∷ fields.Offset ∷ fields.Most ∷ []
@@ -125,7 +125,7 @@ known_operation rules.KnownAndId verb d = known_within (fields.Do ∷ []) (opera
 
 -- the fields of a job's line
 abbrev pub job_fields : List Field
-job_fields = fields.Namespace ∷ fields.Key ∷ fields.Parent ∷ fields.Ops ∷ fields.End ∷ fields.Name ∷ fields.Lease ∷ fields.Extra ∷ []
+job_fields = fields.Namespace ∷ fields.Key ∷ fields.Parent ∷ fields.Ops ∷ fields.End ∷ fields.Name ∷ fields.Lease ∷ fields.Labels ∷ fields.Extra ∷ []
 
 -- the line of a job, which has neither a command's word nor a session, has no field but those that it may have
 unfoldable pub known_job : FieldRule → Data → Result Unit Fault

@@ -11,6 +11,7 @@ pub mod Gives
 pub mod Answers
 pub mod Calls
 pub mod Refusals
+pub mod About
 pub mod Written
 pub mod WrittenCalls
 pub mod Requests

@@ -1,7 +1,7 @@
 -- File operations, as lines and jobs have them; cited by the public clauses of `read_line`, through Commands.antt, and of
 -- `operations`. The fields are tested in the order in which they stand.
-use Rattle.std.specs.Prelude.{ℕ, ◌+◌, if◌then◌else◌, List, [], ◌∷◌, Option, Some, None, option_map, Result, Ok, Err}
-use Rattle.std.specs.Option.{is_some, ok_or, option_zip}
+use Rattle.std.specs.Prelude.{ℕ, ◌+◌, if◌then◌else◌, List, [], ◌∷◌, Option, Some, None, Result, Ok, Err}
+use Rattle.std.specs.Option.{is_some, ok_or}
 use Rattle.serde_json.specs.Data.{Data, Items, no_items, item}
 use Rattle.serde_json.specs.Find.{as_array, as_object, as_str}
 use Rattle.snap_path.specs.Text.{Names, is_path, path_names}
@@ -54,16 +54,18 @@ operation_at path_verbs.Whiteout path line = Ok (ops.Whiteout path)
 -- ---- file commands
 
 -- the operation at a path; where there is none, the other fields are tested as at the root
-abbrev pub operation_if : PathVerb → Option Names → Data → Result (Option Op) Fault
-operation_if verb (Some path) line = do Ok (Some (← operation_at verb path line))
-operation_if verb None line = do op ← operation_at verb [] line; Ok None
+abbrev pub operation_if : PathVerb → Option Names → Data → Result (Result Op Field) Fault
+operation_if verb (Some path) line = do Ok (Ok (← operation_at verb path line))
+operation_if verb None line = do op ← operation_at verb [] line; Ok (Err fields.Path)
 
 -- an operation from a path to another, where both are paths
-abbrev pub both : (Names → Names → Op) → Option Names → Option Names → Option Op
-both op from to = option_map (λ paths. op paths.0 paths.1) (option_zip from to)
+abbrev pub both : (Names → Names → Op) → Option Names → Option Names → Result Op Field
+both op (Some from) (Some to) = Ok (op from to)
+both op None to = Err fields.From
+both op (Some from) None = Err fields.To
 
--- the operation of a file command, and none where the text of a path is no path
-unfoldable pub file_operation : FileVerb → Data → Result (Option Op) Fault
+-- the operation of a file command, or the first field of a path whose text is no path
+unfoldable pub file_operation : FileVerb → Data → Result (Result Op Field) Fault
 file_operation (file_verbs.At verb) line = do operation_if verb (← path_in fields.Path line) line
 file_operation file_verbs.Link line = do Ok (both ops.Link (← path_in fields.From line) (← path_in fields.To line))
 file_operation file_verbs.Rename line = do Ok (both ops.Rename (← path_in fields.From line) (← path_in fields.To line))

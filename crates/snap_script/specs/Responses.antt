@@ -3,7 +3,7 @@ use Rattle.std.specs.Prelude.{true, List, [], ℕ, ◌∷◌, ◌++◌, Option, 
 use Rattle.serde_json.specs.Data.{Data, boolean, string, object, member}
 use Rattle.serde_json.specs.Written.{compact_text}
 use Rattle.snap_script.specs.Faults.{fault_words}
-use Rattle.snap_script.specs.Answers.{answer_data, error_data, number_data, only}
+use Rattle.snap_script.specs.Answers.{answer_data, number_data, only}
 use Rattle.snap_script.specs.declared.request.Id.{Id}
 use Rattle.snap_script.specs.declared.request.Id.TheVariants as ids
 use Rattle.snap_script.specs.declared.response.Response.{Response}
@@ -19,7 +19,7 @@ abbrev pub response_data : Response → Data
 response_data (responses.Answer answer) = answer_data answer
 response_data (responses.Fault fault line) = object (member (codes "fault") (string (fault_words fault)) (only (codes "line") (number_data line)))
 response_data responses.Empty = object (only (codes "empty") (boolean true))
-response_data responses.NotKept = error_data (codes "NotKept") (codes "log")
+response_data responses.NotKept = object (member (codes "error") (string (codes "NotKept")) (only (codes "from") (string (codes "log"))))
 
 -- the response to a line without an id, or within an object that has it
 abbrev pub identified : Option Id → Response → Data

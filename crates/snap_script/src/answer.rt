@@ -4,10 +4,11 @@ ghost use Rattle.snap_script.specs.Answers.{answer_data, answer_line, answer_tol
 ghost use Rattle.snap_script.specs.declared.answer.Answer.TheVariants as answers;
 
 use crate::batch::batch_done;
+use crate::fault::Field;
 use crate::refused::Refused;
 use crate::to_json::{ToJson, member, only, pair};
 use crate::unknown::FieldRule;
-use crate::values::{bad_config, error, error_name, jobs, quotas, report, sized};
+use crate::values::{bad_config, jobs, quotas, refusal, report, sized};
 use snap_call::{ConfigField, Refusal, Reply};
 use snap_diff::Change;
 use snap_history::EntryInfo;
@@ -146,6 +147,8 @@ pub struct RefusedOperation {
     /// The operation's number in its batch, from 1.
     pub number: u64,
     pub why: Refused,
+    /// The field of the operation that the refusal is about, where that is told.
+    pub of: Option<Field>,
 }
 
 /// What a line of a script is answered, and the lines of a script of jobs together.
@@ -181,7 +184,9 @@ pub enum Answer {
     /// How many operations of a batch were done, with the layer's count and the snapshot's charge after them:
     /// `{"count":[4,3],"done":2,"share":[9,9]}`; and where one was refused, why and which:
     /// `{"count":[4,3],"done":2,"error":"NotFound","from":"file","op":3,"share":[9,9]}`, over the limit with what is
-    /// free, `{"count":[4,3],"done":2,"error":"OverLimit","free":[5,0],"from":"book","op":3,"share":[4,3]}`.
+    /// free, `{"count":[4,3],"done":2,"error":"OverLimit","free":[5,0],"from":"book","op":3,"share":[4,3]}`, and with the
+    /// field that it is about, where that is told:
+    /// `{"count":[4,3],"done":2,"error":"NotFound","from":"file","of":"path","op":3,"share":[9,9]}`.
     Batch {
         done: u64,
         count: Usage,
@@ -258,6 +263,12 @@ pub enum Answer {
     NoHand,
     /// A snapshot is open, so no round can be begun: `{"error":"StillOut","from":"world"}`.
     StillOut,
+    /// A command was refused, as one of those above says, with the field that the refusal is about, where that is told:
+    /// `{"error":"NotFound","from":"book","of":"parent"}`.
+    Refused {
+        why: Refused,
+        of: Option<Field>,
+    },
 }
 
 // By hand: a derived one is proved anew, part by part, wherever a value is let go.
@@ -303,6 +314,7 @@ impl Drop for Answer {
             Answer::NoSession => {}
             Answer::NoHand => {}
             Answer::StillOut => {}
+            Answer::Refused { why: _, of: _ } => {}
         }
     }
 }
@@ -315,14 +327,33 @@ impl Answer {
         Answer::Reply(Reply::Refused(why))
     }
 
-    /// The answer as the rule tells it: where any field may stand in a line, the refusal of a store doesn't name
-    /// the field. Takes no memory.
+    /// The answer as the rule tells it: where any field may stand in a line, a refusal doesn't name the field that it
+    /// is about. Takes no memory.
     pub fn told(self, rule: FieldRule) -> Answer
         ensures { result ≡ answer_told rule self }
     {
         match rule {
             FieldRule::Any => match &self {
                 Answer::BadConfig(_) => Answer::refused(Refusal::BadArgument),
+                Answer::Refused { why, of: _ } => Answer::Refused {
+                    why: *why,
+                    of: None,
+                },
+                Answer::Batch {
+                    done,
+                    count,
+                    share,
+                    refused: Some(RefusedOperation { number, why, of: _ }),
+                } => Answer::Batch {
+                    done: *done,
+                    count: *count,
+                    share: *share,
+                    refused: Some(RefusedOperation {
+                        number: *number,
+                        why: *why,
+                        of: None,
+                    }),
+                },
                 _ => self,
             },
             FieldRule::Known | FieldRule::KnownAndId => self,
@@ -398,10 +429,11 @@ impl ToJson for Answer {
                 totals.as_slice(),
             ),
             Answer::BadConfig(field) => bad_config(alloc, out, *field),
-            Answer::Failed(own) => error(alloc, out, error_name(*own), "file"),
-            Answer::NoSession => error(alloc, out, "NoSession", "world"),
-            Answer::NoHand => error(alloc, out, "NoHand", "world"),
-            Answer::StillOut => error(alloc, out, "StillOut", "world"),
+            Answer::Failed(own) => refusal(alloc, out, Refused::File(*own), None),
+            Answer::NoSession => refusal(alloc, out, Refused::NoSession, None),
+            Answer::NoHand => refusal(alloc, out, Refused::NoHand, None),
+            Answer::StillOut => refusal(alloc, out, Refused::StillOut, None),
+            Answer::Refused { why, of } => refusal(alloc, out, *why, *of),
         }
     }
 }

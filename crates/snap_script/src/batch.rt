@@ -10,7 +10,7 @@ ghost use Rattle.snap_script.specs.declared.answer.Answer.TheVariants as answers
 use crate::answer::RefusedOperation;
 use crate::command::Command;
 use crate::fault::{Field, ReadError};
-use crate::fields::required_usage;
+use crate::fields::{is_true, required_usage};
 use crate::operation::operations;
 use crate::parse::named;
 use crate::to_json::{maybe, member};
@@ -30,6 +30,7 @@ pub(crate) fn batch(alloc: Global, rule: FieldRule, line: &Value<'_>) -> Result<
         key,
         need: required_usage(Field::Need, line)?,
         ops: operations(alloc, rule, line)?,
+        whole: is_true(Field::Whole, line)?,
     })
 }
 
@@ -62,13 +63,14 @@ fn refused(
 ) -> Result<(), AllocError>
     ensures { OnOk result (out.new ≡ with_value (answer_data (answers.Batch done count share (Some refused))) out.old) }
 {
-    let RefusedOperation { number, why } = refused;
+    let RefusedOperation { number, why, of } = refused;
     out.token(Token::BeginObject)?;
     member(alloc, out, "count", &count)?;
     member(alloc, out, "done", &done)?;
     member(alloc, out, "error", &why.name())?;
     maybe(alloc, out, "free", &why.free())?;
     member(alloc, out, "from", &why.from())?;
+    maybe(alloc, out, "of", &of)?;
     member(alloc, out, "op", &number)?;
     member(alloc, out, "share", &share)?;
     out.token(Token::EndObject)

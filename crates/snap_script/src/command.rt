@@ -1,6 +1,7 @@
 ghost use Rattle.std.specs.Prelude.{◌≡◌, IfOk, map};
 ghost use Rattle.snap_script.specs.Changes.{changes_store, opens_store};
 
+use crate::fault::Field;
 use snap_call::{Call, Config, Namespace, Question};
 use snap_path::Path;
 use snap_record::{Labels, Sequence, Text};
@@ -58,21 +59,22 @@ pub enum Command {
         key: Text,
     },
     /// Changes a file or a directory of an active snapshot. Where its charge doesn't cover what is
-    /// needed, so much is charged and, if the limit covers it, the extra amount too. There is no operation
-    /// where the text of a path is no path.
+    /// needed, so much is charged and, if the limit covers it, the extra amount too. In place of the operation stands
+    /// the first field of a path whose text is no path.
     File {
         namespace: Text,
         key: Text,
-        operation: Option<Op>,
+        operation: Result<Op, Field>,
         extra: Usage,
     },
     /// Charges an active snapshot for what is needed, and then carries out file operations on it, in order, up to the
-    /// first that is refused.
+    /// first that is refused. Where it is whole and one is refused, the layer is as it was.
     Batch {
         namespace: Text,
         key: Text,
         need: Usage,
         ops: Sequence<Op>,
+        whole: bool,
     },
     /// Asks what an active snapshot or a view shows at a path, and where it may be peeked at, what a committed one
     /// would. There is no path where its text is none.

@@ -1,6 +1,6 @@
 ghost use Rattle.std.specs.Prelude.{◌≡◌, Some};
 ghost use Rattle.snap_path.specs.Memory.{no_memory};
-ghost use Rattle.snap_script.specs.Faults.{bad_field_words, brief, error_told, fault_told, fault_words, field_name, found_words, of_operation, operation_brief, operation_words, unknown_field_words, wanted};
+ghost use Rattle.snap_script.specs.Faults.{bad_field_words, brief, error_told, fault_words, field_name, found_words, of_operation, operation_brief, operation_words, unknown_field_words, wanted};
 ghost use Rattle.snap_script.specs.declared.fault.ReadError.TheVariants as errors;
 
 use crate::refused::Refused;
@@ -59,6 +59,8 @@ pub enum Field {
     Full,
     /// Whether a lookup may be of a committed snapshot.
     Peek,
+    /// Whether of a batch all is done or none.
+    Whole,
     Blocks,
     Inodes,
     Path,
@@ -180,6 +182,7 @@ impl Field {
             Field::Quiet => "quiet",
             Field::Full => "full",
             Field::Peek => "peek",
+            Field::Whole => "whole",
             Field::Blocks => "blocks",
             Field::Inodes => "inodes",
             Field::Path => "path",
@@ -216,9 +219,10 @@ impl Field {
             | Field::Mode
             | Field::Offset
             | Field::Size => (Found::Number, "a number"),
-            Field::Try | Field::Chain | Field::Quiet | Field::Full | Field::Peek => {
-                (Found::Truth, "true or false")
-            }
+            Field::Try | Field::Chain | Field::Quiet | Field::Full | Field::Peek | Field::Whole => (
+                Found::Truth,
+                "true or false",
+            ),
             Field::Do => (
                 Found::Text,
                 "the word of a command, in a job that of a file command,",
@@ -310,16 +314,6 @@ impl Fault {
         }
     }
 
-    /// The fault as the rule tells it: where any field may stand in a line, it is brief. Takes no memory.
-    fn told(self, rule: FieldRule) -> Fault
-        ensures { result ≡ fault_told rule self }
-    {
-        match rule {
-            FieldRule::Any => self.brief(),
-            FieldRule::Known | FieldRule::KnownAndId => self,
-        }
-    }
-
     /// The fault of the operation of a job that has this number, where a value is no operation for it.
     pub(crate) fn of_operation(self, number: u64) -> Fault
         ensures { result ≡ of_operation number self }
@@ -352,9 +346,12 @@ impl ReadError {
     pub fn told(self, rule: FieldRule) -> ReadError
         ensures { result ≡ error_told rule self }
     {
-        match self {
-            ReadError::Fault(fault) => ReadError::Fault(fault.told(rule)),
-            ReadError::OutOfMemory(shortage) => ReadError::OutOfMemory(shortage),
+        match rule {
+            FieldRule::Any => match self {
+                ReadError::Fault(fault) => ReadError::Fault(fault.brief()),
+                ReadError::OutOfMemory(shortage) => ReadError::OutOfMemory(shortage),
+            },
+            FieldRule::Known | FieldRule::KnownAndId => self,
         }
     }
 }

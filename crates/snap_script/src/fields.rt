@@ -45,8 +45,8 @@ pub(crate) fn missing(field: Field) -> Fault
     Fault::BadField(field, Some(Found::Nothing))
 }
 
-/// Whether a field is true; it is not where it is absent.
-pub(crate) fn is_true(field: Field, line: &Value<'_>) -> Result<bool, Fault>
+/// Whether a field is true; it is not where it is absent. `BadField` where it is there and no `true` or `false`.
+pub fn is_true(field: Field, line: &Value<'_>) -> Result<bool, Fault>
     ensures { result ≡ optional as_bool field (Ok false) (view line.now) }
 {
     match line.get(field.name()) {
@@ -428,8 +428,9 @@ pub(crate) fn labels(alloc: Global, line: &Value<'_>) -> Result<Labels, ReadErro
     }
 }
 
-/// The labels, or nothing where the line has no such field.
-pub(crate) fn optional_labels(alloc: Global, line: &Value<'_>) -> Result<Option<Labels>, ReadError>
+/// Labels that may be absent: at most the first 65 in byte order of their keys, since more than 64 are refused.
+/// `BadField` where they are there and no object of texts. The memory and the cost grow with the object.
+pub fn optional_labels(alloc: Global, line: &Value<'_>) -> Result<Option<Labels>, ReadError>
     ensures { Gives (λ labels. labels) result (given as_labels fields.Labels (view line.now)) }
 {
     let Some(value) = line.get(Field::Labels.name()) else {

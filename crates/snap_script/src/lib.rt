@@ -9,6 +9,7 @@
 //! call which an entry of a journal has is `call_line` in `specs/Calls.antt`.
 #![tactic(auto)]
 
+mod about;
 mod answer;
 mod batch;
 mod calls;
@@ -27,11 +28,12 @@ mod unknown;
 mod values;
 mod verb;
 
+pub use about::Subjects;
 pub use answer::{Answer, JournalEntry, QuotaInfo, RefusedOperation, Shown, TreeNode};
 pub use calls::call_line;
 pub use command::{Command, Lookup, names_of};
 pub use fault::{Fault, Field, Found, OperationFault, ReadError};
-pub use line::{Line, MAX_LINE_BYTES, is_empty, read_line, read_object, read_open};
+pub use line::{Line, MAX_LINE_BYTES, command_in, is_empty, read_line, read_object, read_open};
 pub use operation::operations;
 pub use parse::named;
 pub use refused::Refused;

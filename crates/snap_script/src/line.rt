@@ -88,9 +88,14 @@ fn allowed(alloc: Global, opened: bool, word: &str) -> Result<Verb, ReadError>
     }
 }
 
-/// The command of the object that a line is.
+/// The command of the object that a line is. `rule` says which fields it may have, and `opened` whether a store was
+/// opened. It is never `Empty`.
+///
+/// `BadField` of `do`, `FirstLineMustBeOpen` or `OpenTwice`, `NoSuchCommand`, `UnknownField`, `BadField` of `s`, and then
+/// those of the command's fields in their order; each tells what [`Fault`] has, whatever the rule. `OutOfMemory` where
+/// memory for it was refused. The memory and the cost grow with the line.
 #[tactic(auto, unfolding(crate::specs::Lines::command_in))]
-pub(crate) fn command_in(
+pub fn command_in(
     alloc: Global,
     rule: FieldRule,
     opened: bool,

@@ -101,38 +101,40 @@ fn operation_at(
     })
 }
 
-/// The operation of a file command, and none where the text of a path is no path. The line's other fields
+/// The operation of a file command, or the first field of a path whose text is no path. The line's other fields
 /// are tested then too.
 #[tactic(auto, unfolding(crate::specs::Operations::file_operation))]
 pub(crate) fn file_operation(
     alloc: Global,
     verb: FileVerb,
     line: &Value<'_>,
-) -> Result<Option<Op>, ReadError>
+) -> Result<Result<Op, Field>, ReadError>
     ensures { Gives (λ op. op) result (file_operation verb (view line.now)) }
 {
     match verb {
         FileVerb::At(verb) => match path_in(alloc, Field::Path, line)? {
-            Some(path) => Ok(Some(operation_at(alloc, verb, path, line)?)),
+            Some(path) => Ok(Ok(operation_at(alloc, verb, path, line)?)),
             None => {
                 operation_at(alloc, verb, Path::root(alloc), line)?;
-                Ok(None)
+                Ok(Err(Field::Path))
             }
         },
         FileVerb::Link => {
             let from = path_in(alloc, Field::From, line)?;
             let to = path_in(alloc, Field::To, line)?;
-            match from.zip(to) {
-                Some((from, to)) => Ok(Some(Op::Link { from, to })),
-                None => Ok(None),
+            match (from, to) {
+                (Some(from), Some(to)) => Ok(Ok(Op::Link { from, to })),
+                (None, _) => Ok(Err(Field::From)),
+                (Some(_), None) => Ok(Err(Field::To)),
             }
         }
         FileVerb::Rename => {
             let from = path_in(alloc, Field::From, line)?;
             let to = path_in(alloc, Field::To, line)?;
-            match from.zip(to) {
-                Some((from, to)) => Ok(Some(Op::Rename { from, to })),
-                None => Ok(None),
+            match (from, to) {
+                (Some(from), Some(to)) => Ok(Ok(Op::Rename { from, to })),
+                (None, _) => Ok(Err(Field::From)),
+                (Some(_), None) => Ok(Err(Field::To)),
             }
         }
     }

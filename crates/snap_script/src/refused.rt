@@ -1,6 +1,5 @@
 ghost use Rattle.std.specs.Prelude.{◌≡◌};
-ghost use Rattle.snap_script.specs.Answers.{free_at_refusal, refused_from, refused_name};
-ghost use Rattle.snap_script.specs.Refusals.{refusal_in_answer};
+ghost use Rattle.snap_script.specs.Refusals.{free_at_refusal, refusal_in_answer, refused_from, refused_name};
 
 use crate::answer::Answer;
 use crate::values::{error_name, refusal_name};
@@ -80,6 +79,7 @@ impl Answer {
             Answer::NoSession => Some(Refused::NoSession),
             Answer::NoHand => Some(Refused::NoHand),
             Answer::StillOut => Some(Refused::StillOut),
+            Answer::Refused { why, of: _ } => Some(*why),
             Answer::Batch {
                 refused: Some(operation),
                 ..

@@ -1,12 +1,10 @@
-ghost use Rattle.std.specs.Prelude.{◌≡◌, IfOk, OnOk, string_bytes};
-ghost use Rattle.snap_json.specs.Tokens.{with_value};
-ghost use Rattle.snap_script.specs.Responses.{id_data, identified, response_data, response_line};
+ghost use Rattle.std.specs.Prelude.{◌≡◌, IfOk, string_bytes};
+ghost use Rattle.snap_script.specs.Responses.{id_data, response_data, response_line};
 
 use crate::answer::Answer;
 use crate::fault::Fault;
 use crate::request::Id;
 use crate::to_json::{ToJson, only, pair};
-use crate::values::error;
 use snap_json::Writer;
 use std::alloc::{AllocError, Global};
 
@@ -47,23 +45,8 @@ impl ToJson for Response {
                 pair(alloc, out, "fault", &words.as_str(), "line", line)
             }
             Response::Empty => only(alloc, out, "empty", &true),
-            Response::NotKept => error(alloc, out, "NotKept", "log"),
+            Response::NotKept => pair(alloc, out, "error", &"NotKept", "from", &"log"),
         }
-    }
-}
-
-/// The response alone, or within an object that has the id.
-fn write_identified(
-    alloc: Global,
-    out: &mut Writer,
-    id: &Option<Id>,
-    response: &Response,
-) -> Result<(), AllocError>
-    ensures { OnOk result (out.new ≡ with_value (identified id.now response.now) out.old) }
-{
-    match id {
-        None => response.write(alloc, out),
-        Some(id) => pair(alloc, out, "answer", response, "id", id),
     }
 }
 
@@ -76,7 +59,10 @@ impl Response {
         ensures { IfOk result (λ s. string_bytes s ≡ response_line id.now self.now) }
     {
         let mut out = Writer::new(alloc)?;
-        write_identified(alloc, &mut out, id, self)?;
+        match id {
+            None => self.write(alloc, &mut out)?,
+            Some(id) => pair(alloc, &mut out, "answer", self, "id", id)?,
+        }
         let mut line = out.finish();
         line.push('\n')?;
         Ok(line)

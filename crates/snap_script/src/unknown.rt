@@ -155,7 +155,13 @@ fn fields_of(verb: Verb) -> &'static [Field]
             Field::From,
             Field::To,
         ],
-        Verb::Batch => &[Field::Namespace, Field::Key, Field::Need, Field::Ops],
+        Verb::Batch => &[
+            Field::Namespace,
+            Field::Key,
+            Field::Need,
+            Field::Ops,
+            Field::Whole,
+        ],
         Verb::Lookup(
             LookupVerb::Look | LookupVerb::List | LookupVerb::Resolve | LookupVerb::Usage,
         ) => { &[Field::Namespace, Field::Key, Field::Path, Field::Peek] }
@@ -333,6 +339,7 @@ fn job_fields() -> &'static [Field]
         Field::End,
         Field::Name,
         Field::Lease,
+        Field::Labels,
         Field::Extra,
     ]
 }

@@ -3,11 +3,15 @@ ghost use Rattle.std.specs.Prelude.{◌≡◌, OnOk, Some};
 ghost use Rattle.serde_json.specs.Data.{string};
 ghost use Rattle.snap_call.specs.declared.reply.Reply.TheVariants as replies;
 ghost use Rattle.snap_json.specs.Tokens.{with_value};
-ghost use Rattle.snap_script.specs.Answers.{answer_data, bad_config_data, config_field_name, entry_data, error_data, error_name, info_data, lease_data, mount_data, refusal_name, reply_data, shown_data};
+ghost use Rattle.snap_script.specs.Answers.{answer_data, bad_config_data, entry_data, info_data, lease_data, mount_data, refusal_data, reply_data, shown_data};
+ghost use Rattle.snap_script.specs.Refusals.{config_field_name, error_name, refusal_name};
+ghost use Rattle.snap_script.specs.Faults.{field_name};
 ghost use Rattle.snap_script.specs.declared.answer.Answer.TheVariants as answers;
 ghost use Rattle.snap_script.specs.declared.answer.Shown.TheVariants as shown;
 
 use crate::answer::{JournalEntry, QuotaInfo};
+use crate::fault::Field;
+use crate::refused::Refused;
 use crate::to_json::{ToJson, by_name, maybe, member, only, pair};
 use snap_call::{ConfigField, Refusal, Reply};
 use snap_json::{Token, Writer};
@@ -66,6 +70,15 @@ impl ToJson for Refusal {
 
     fn write(&self, _alloc: Global, out: &mut Writer) -> Result<(), AllocError> {
         out.token(Token::String(refusal_name(*self)))
+    }
+}
+
+/// The field's name.
+impl ToJson for Field {
+    ghost value = { λ field. string (field_name field) };
+
+    fn write(&self, _alloc: Global, out: &mut Writer) -> Result<(), AllocError> {
+        out.token(Token::String(self.name()))
     }
 }
 
@@ -157,16 +170,22 @@ pub(crate) fn error_name(error: FsError) -> &'static str
     }
 }
 
-/// An error's name, and where it comes from.
-pub(crate) fn error(
+/// A refusal, with what is free where it is over the limit, and with the field that it is about where that is told.
+#[tactic(auto, using(crate::proofs::Maps::with_members_maybe))]
+pub(crate) fn refusal(
     alloc: Global,
     out: &mut Writer,
-    name: &str,
-    from: &str,
+    why: Refused,
+    of: Option<Field>,
 ) -> Result<(), AllocError>
-    ensures { OnOk result (out.new ≡ with_value (error_data name.now from.now) out.old) }
+    ensures { OnOk result (out.new ≡ with_value (refusal_data why of) out.old) }
 {
-    pair(alloc, out, "error", &name, "from", &from)
+    out.token(Token::BeginObject)?;
+    member(alloc, out, "error", &why.name())?;
+    maybe(alloc, out, "free", &why.free())?;
+    member(alloc, out, "from", &why.from())?;
+    maybe(alloc, out, "of", &of)?;
+    out.token(Token::EndObject)
 }
 
 /// The field of `open` that gives a part of a configuration; no line gives the first id.
@@ -282,24 +301,6 @@ fn swept(
     out.token(Token::EndObject)
 }
 
-fn refused(alloc: Global, out: &mut Writer, refusal: Refusal) -> Result<(), AllocError>
-    ensures { OnOk result (out.new ≡ with_value (reply_data (replies.Refused refusal)) out.old) }
-{
-    match refusal {
-        Refusal::OverLimit {
-            free_blocks: blocks,
-            free_inodes: inodes,
-        } => {
-            out.token(Token::BeginObject)?;
-            member(alloc, out, "error", &"OverLimit")?;
-            member(alloc, out, "free", &Usage { blocks, inodes })?;
-            member(alloc, out, "from", &"book")?;
-            out.token(Token::EndObject)
-        }
-        other => error(alloc, out, refusal_name(other), "book"),
-    }
-}
-
 /// What the store replies to a call.
 impl ToJson for Reply {
     ghost value = { reply_data };
@@ -321,7 +322,7 @@ impl ToJson for Reply {
                 leases,
                 freed,
             } => swept(alloc, out, removed, *leases, *freed),
-            Reply::Refused(refusal) => refused(alloc, out, *refusal),
+            Reply::Refused(why) => refusal(alloc, out, Refused::Book(*why), None),
         }
     }
 }

@@ -1,6 +1,6 @@
 ghost use Rattle.std.specs.Prelude.{◌≡◌, find, map, option_map};
 ghost use Rattle.snap_script.specs.Near.{is_near};
-ghost use Rattle.snap_script.specs.Words.{is_file, near_command, near_file_command, near_file_word, verb_of};
+ghost use Rattle.snap_script.specs.Words.{near_command, near_file_command, near_file_word, verb_of};
 
 use crate::near::is_near;
 use snap_history::CallKind;
@@ -146,19 +146,12 @@ pub(crate) fn near_command(word: &str) -> Option<&'static str>
     near_entry(&WORDS, word)
 }
 
-/// Whether the verb is that of a file command.
-fn is_file(verb: Verb) -> bool
-    ensures { result ≡ is_file verb }
-{
-    matches!(verb, Verb::File(_))
-}
-
 /// The first word of a file command in a table that is near.
 fn near_file_entry(mut table: &[(&'static str, Verb)], word: &str) -> Option<&'static str>
     ensures { option_map (λ known. known.now) result ≡ near_file_word (map (λ p. (p.0.now, p.1)) table.entry.now) word.now }
 {
     while let [entry, rest @ ..] = table {
-        if is_file(entry.1) && is_near(entry.0.as_bytes(), word.as_bytes()) {
+        if matches!(entry.1, Verb::File(_)) && is_near(entry.0.as_bytes(), word.as_bytes()) {
             return Some(entry.0);
         }
         table = rest;

@@ -5,3 +5,5 @@ pub mod Serving
 pub mod Asking
 pub mod Keeping
 pub mod Batching
+mod Told
+pub mod Whole

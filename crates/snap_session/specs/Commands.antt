@@ -35,6 +35,7 @@ use Rattle.snap_world.specs.declared.step.Step.TheVariants.{Locked, Hand}
 use Rattle.snap_world.specs.declared.step.Answer.{Answer as StepAnswer}
 use Rattle.snap_world.specs.declared.step.Answer.TheVariants as step_answers
 use Rattle.snap_world.specs.World.{WorldValue}
+use Rattle.snap_world.specs.Layers.{open_layer_at, with_layer}
 use Rattle.snap_world.specs.Move.{move}
 use Rattle.snap_world.specs.Stacks.{peeked_of, stack_of}
 use Rattle.snap_world.specs.Quota.{layer_count_at}
@@ -43,6 +44,9 @@ use Rattle.snap_script.specs.declared.answer.Shown.{Shown}
 use Rattle.snap_script.specs.declared.answer.Shown.TheVariants as shown
 use Rattle.snap_script.specs.declared.answer.RefusedOperation.{RefusedOperation}
 use Rattle.snap_script.specs.Refusals.{refusal_in_answer}
+use Rattle.snap_script.specs.About.{answer_about, command_answer, subjects}
+use Rattle.snap_script.specs.declared.fault.Field.{Field}
+use Rattle.snap_script.specs.declared.refused.Refused.{Refused}
 use Rattle.snap_script.specs.declared.answer.Answer.{Answer}
 use Rattle.snap_script.specs.declared.answer.Answer.TheVariants as answers
 use Rattle.snap_script.specs.declared.command.Command.{Command}
@@ -50,6 +54,7 @@ use Rattle.snap_script.specs.declared.command.Command.TheVariants as commands
 use Rattle.snap_script.specs.declared.command.Lookup.{Lookup}
 use Rattle.snap_script.specs.declared.command.Lookup.TheVariants as lookups
 use Rattle.snap_session.specs.Found.{found_or_else, refusal_answer}
+use Rattle.snap_session.specs.About.{about_operation}
 use Rattle.snap_session.specs.Opened.{OpenedValue, new_world, share_at, totals_of}
 use Rattle.snap_session.specs.Carried.{carried_of}
 use Rattle.snap_session.specs.Diff.{diff}
@@ -114,10 +119,14 @@ abbrev pub tried : ℕ → ℕ → ℕ → Step → Usage → WorldValue × Step
 tried session slot id operation extra after = option_map_or (λ need. retried session slot operation (move after.0 (Locked session (calls.Charge slot id need (wanted_charge need extra)))))
     (need_of after.1) (telling session slot after)
 
--- an operation; there is none where the text of a path was no path
-unfoldable pub performed : ℕ → ℕ → ℕ → Option Op → Usage → WorldValue → WorldValue × Answer
-performed session slot id (Some op) extra w = tried session slot id (Hand slot op) extra (move w (Hand slot op))
-performed session slot id None extra w = (w, answers.Failed BadPath)
+-- the answer of an operation with the field that its refusal is about
+abbrev pub operation_answer : Bytes → Bytes → Op → WorldValue × Answer → WorldValue × Answer
+operation_answer namespace key op after = (after.0, answer_about (about_operation after.0 namespace key op) after.1)
+
+-- an operation on the snapshot of a key; there is none where the text of a path was no path
+unfoldable pub performed : ℕ → Bytes → Bytes → ℕ → ℕ → Result Op Field → Usage → WorldValue → WorldValue × Answer
+performed session namespace key slot id (Ok op) extra w = operation_answer namespace key op (tried session slot id (Hand slot op) extra (move w (Hand slot op)))
+performed session namespace key slot id (Err field) extra w = (w, answers.Failed BadPath)
 
 -- ---- batches
 
@@ -129,23 +138,45 @@ operated session slot id op w = tried session slot id (Hand slot op) no_usage (m
 abbrev pub batch_answer : ℕ → ℕ → Option RefusedOperation → WorldValue → Answer
 batch_answer slot done stopped w = answers.Batch done (layer_count_at slot w.hands) (share_at slot w) stopped
 
+-- the refusal of the operation of this number, with the field that it is about
+abbrev pub refused_operation : Bytes → Bytes → Op → ℕ → WorldValue → Refused → RefusedOperation
+refused_operation namespace key op number w why = record { number = number; why = why; of = about_operation w namespace key op why }
+
 -- after an operation: where it was refused the batch ends at it, and so many were done before
-abbrev pub unless_stopped : ℕ → ℕ → (WorldValue → WorldValue × Answer) → WorldValue × Answer → WorldValue × Answer
-unless_stopped slot done next after = option_map_or (λ why. (after.0, batch_answer slot done (Some (record { number = done + 1; why = why })) after.0))
+abbrev pub unless_stopped : Bytes → Bytes → Op → ℕ → ℕ → (WorldValue → WorldValue × Answer) → WorldValue × Answer → WorldValue × Answer
+unless_stopped namespace key op slot done next after = option_map_or (λ why. (after.0, batch_answer slot done (Some (refused_operation namespace key op (done + 1) after.0 why)) after.0))
     (refusal_in_answer after.1) (next after.0)
 
--- the operations, in order, up to the first that is refused; so many were done before
-abbrev pub all_operated : ℕ → ℕ → ℕ → ℕ → List Op → WorldValue → WorldValue × Answer
-all_operated session slot id done [] w = (w, batch_answer slot done None w)
-all_operated session slot id done (op ∷ ops) w = unless_stopped slot done (all_operated session slot id (done + 1) ops) (operated session slot id op w)
+-- the operations on the snapshot of a key, in order, up to the first that is refused; so many were done before
+abbrev pub all_operated : ℕ → Bytes → Bytes → ℕ → ℕ → ℕ → List Op → WorldValue → WorldValue × Answer
+all_operated session namespace key slot id done [] w = (w, batch_answer slot done None w)
+all_operated session namespace key slot id done (op ∷ ops) w = unless_stopped namespace key op slot done (all_operated session namespace key slot id (done + 1) ops) (operated session slot id op w)
 
 -- after the charge: the operations, where it was granted
-abbrev pub batch_charged : ℕ → ℕ → ℕ → List Op → WorldValue × StepAnswer → WorldValue × Answer
-batch_charged session slot id ops after = if is_charged after.1 then all_operated session slot id 0 ops after.0 else telling session slot after
+abbrev pub batch_charged : ℕ → Bytes → Bytes → ℕ → ℕ → List Op → WorldValue × StepAnswer → WorldValue × Answer
+batch_charged session namespace key slot id ops after = if is_charged after.1 then all_operated session namespace key slot id 0 ops after.0 else telling session slot after
 
 -- a batch: a charge for what it needs, and then its operations
-abbrev pub batch : ℕ → ℕ → ℕ → Usage → List Op → WorldValue → WorldValue × Answer
-batch session slot id need ops w = batch_charged session slot id ops (move w (Locked session (calls.Charge slot id need need)))
+abbrev pub batch : ℕ → Bytes → Bytes → ℕ → ℕ → Usage → List Op → WorldValue → WorldValue × Answer
+batch session namespace key slot id need ops w = batch_charged session namespace key slot id ops (move w (Locked session (calls.Charge slot id need need)))
+
+-- the operation of a batch that was refused
+abbrev pub stopped_in : Answer → Option RefusedOperation
+stopped_in (answers.Batch done count share stopped) = stopped
+stopped_in answer = None
+
+-- the layer stands in the slot's hand again, and none of the operations was done; charges stay
+abbrev pub undone : ℕ → Tree → WorldValue → RefusedOperation → WorldValue × Answer
+undone slot layer w stopped = let back = with_layer slot layer w in (back, batch_answer slot 0 (Some stopped) back)
+
+-- after a batch: where one of its operations was refused, the layer is as it was before it
+abbrev pub all_or_none : ℕ → Option Tree → WorldValue × Answer → WorldValue × Answer
+all_or_none slot None after = after
+all_or_none slot (Some before) after = option_map_or (undone slot before after.0) (stopped_in after.1) after
+
+-- a batch, or one of which all is done or none
+abbrev pub batch_as : Bool → ℕ → Bytes → Bytes → ℕ → ℕ → Usage → List Op → WorldValue → WorldValue × Answer
+batch_as whole session namespace key slot id need ops w = let after = batch session namespace key slot id need ops w in if whole then all_or_none slot (open_layer_at slot w.hands) after else after
 
 -- ---- what a snapshot shows
 
@@ -217,8 +248,8 @@ on_store s n (commands.Charge namespace key need want) = on_key s.world namespac
 on_store s n (commands.Trim namespace key) = on_key s.world namespace key (λ slot id. stepped n slot (Locked n (calls.Trim slot id)) s.world)
 on_store s n (commands.Commit namespace key name lease labels) = on_key s.world namespace key (λ slot id. stepped n slot (Locked n (calls.Commit slot id name lease labels)) s.world)
 on_store s n (commands.Discard namespace key) = on_key s.world namespace key (λ slot id. stepped n slot (Locked n (calls.Discard slot id)) s.world)
-on_store s n (commands.File namespace key operation extra) = on_key s.world namespace key (λ slot id. performed n slot id operation extra s.world)
-on_store s n (commands.Batch namespace key need ops) = on_key s.world namespace key (λ slot id. batch n slot id need ops s.world)
+on_store s n (commands.File namespace key operation extra) = on_key s.world namespace key (λ slot id. performed n namespace key slot id operation extra s.world)
+on_store s n (commands.Batch namespace key need ops whole) = on_key s.world namespace key (λ slot id. batch_as whole n namespace key slot id need ops s.world)
 on_store s n (commands.Lookup namespace key asked path peek) = (s.world, lookup asked path (layers_at s.world namespace key peek))
 on_store s n (commands.TrySweep namespace moment) = (s.world, answers.Reply (sweep s.world.state namespace moment).1)
 on_store s n (commands.ChainUsage namespace key) = (s.world, found_or_else (λ usage. answers.Reply (replies.Usage usage)) refusal_answer (chain_usage s.world.state namespace key))
@@ -249,8 +280,12 @@ store_opened c = option_map_or (λ field. (None, answers.BadConfig field)) (bad_
 abbrev pub with_world : OpenedValue → WorldValue × Answer → Option OpenedValue × Answer
 with_world s after = (Some (record { world = after.0 }), after.1)
 
+-- a command on a store that stands, with what its refusal is about
+abbrev pub told_on_store : OpenedValue → ℕ → Command → WorldValue × Answer
+told_on_store s n command = let after = on_store s n command in (after.0, command_answer (subjects command) after.1)
+
 -- a command in the session n: the store after it, and the answer. Without a store no session is open.
 abbrev pub command_done : Option OpenedValue → ℕ → Command → Option OpenedValue × Answer
 command_done None n (commands.Open config) = store_opened config
 command_done None n command = (None, answers.NoSession)
-command_done (Some s) n command = with_world s (on_store s n command)
+command_done (Some s) n command = with_world s (told_on_store s n command)

@@ -1,4 +1,5 @@
 pub mod Found
+pub mod About
 pub mod Leases
 pub mod Opened
 pub mod Tree

@@ -4,13 +4,14 @@ ghost use Rattle.snap_world.specs.declared.step.Step.TheVariants.{Hand};
 ghost use Rattle.snap_world.specs.Move.{move};
 ghost use Rattle.snap_session.specs.Commands.{on_key, need_of, is_charged, tried, performed};
 
+use crate::about::about_operation;
 use crate::step::{call, operate, told};
 use snap_book::{needed_by, wanted};
 use snap_call::{Call, Reply};
 use snap_ledger::StoreName;
 use snap_merge::FsError;
 use snap_record::Text;
-use snap_script::Answer;
+use snap_script::{Answer, Field};
 use snap_upper::Op;
 use snap_usage::Usage;
 use snap_world::{Answer as StepAnswer, NoMemory, World};
@@ -69,16 +70,23 @@ pub(crate) fn file<N: StoreName>(
     n: u64,
     namespace: Text,
     key: Text,
-    operation: Option<Op>,
+    operation: Result<Op, Field>,
     extra: Usage,
 ) -> Result<Answer, NoMemory>
-    ensures done { IfOk result (λ answer. on_key world.old namespace key (λ slot id. performed n slot id operation extra world.old) ≡ (world.new, answer)) }
+    ensures done { IfOk result (λ answer. on_key world.old namespace key (λ slot id. performed n namespace key slot id operation extra world.old) ≡ (world.new, answer)) }
     ensures opening { world.new.opening ≡ world.old.opening }
 {
     match world.hand(namespace.as_str(), key.as_str()) {
         Ok((slot, id)) => match operation {
-            Some(op) => tried(world, n, slot, id, &op, extra),
-            None => Ok(Answer::Failed(FsError::BadPath)),
+            Ok(op) => {
+                let answer = tried(world, n, slot, id, &op, extra)?;
+                let Some(why) = answer.refusal() else {
+                    return Ok(answer);
+                };
+                let of = about_operation(world, namespace.as_str(), key.as_str(), &op, why);
+                Ok(Answer::Refused { why, of })
+            }
+            Err(_) => Ok(Answer::Failed(FsError::BadPath)),
         },
         Err(why) => Ok(Answer::refused(why)),
     }

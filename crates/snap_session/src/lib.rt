@@ -7,6 +7,7 @@
 //! changes are kept is `served_kept` in `specs/Kept.antt`.
 #![tactic(auto)]
 
+mod about;
 mod batch;
 mod calls;
 mod carried;

@@ -2,8 +2,9 @@
 ghost use Rattle.std.specs.Prelude.{◌≡◌, [], Some, IfOk};
 ghost use Rattle.snap_session.specs.Carried.{carried_of};
 ghost use Rattle.snap_session.specs.Opened.{named_total, total_of, totals_of};
-ghost use Rattle.snap_session.specs.Commands.{with_world, on_store, report};
+ghost use Rattle.snap_session.specs.Commands.{with_world, on_store, report, told_on_store};
 
+use crate::about::{command_answer, subjects};
 use crate::batch::batch;
 use crate::calls::{ask, chain_usage, charge, commit, discard, session, trim, try_sweep};
 use crate::carried::Carried;
@@ -139,7 +140,8 @@ fn on_store<N: StoreName>(
             key,
             need,
             ops,
-        } => batch(world, n, namespace, key, need, ops),
+            whole,
+        } => batch(world, n, namespace, key, need, ops, whole),
         Command::Lookup {
             namespace,
             key,
@@ -195,8 +197,10 @@ impl<N: StoreName> Opened<N> {
         n: u64,
         command: Command,
     ) -> Result<Answer, NoMemory>
-        ensures { IfOk result (λ answer. with_world self.old (on_store self.old n command) ≡ (Some self.new, answer)) }
+        ensures { IfOk result (λ answer. with_world self.old (told_on_store self.old n command) ≡ (Some self.new, answer)) }
     {
-        on_store(alloc, &mut self.world, &mut self.carried, n, command)
+        let own = subjects(&command);
+        let answer = on_store(alloc, &mut self.world, &mut self.carried, n, command)?;
+        Ok(command_answer(own, answer))
     }
 }

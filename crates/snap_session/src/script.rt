@@ -147,7 +147,8 @@ impl<N: StoreName> Script<N> {
     /// `BadConfig` with its first malformed field; it, and one whose journal has no room, leave the name to a later
     /// one. `NoMemory` where memory was refused; the run of a script ends with it, and nothing is said of the store.
     /// An `Open` that it ends may have spent the store's name, so that a later one answers `NoMemory` too. The cost is
-    /// that of the command's steps, at most three, but of a batch one and at most three for each operation.
+    /// that of the command's steps, at most three, but of a batch one and at most three for each operation, and for a
+    /// whole one a copy of the layer.
     pub fn act(&mut self, n: u64, command: Command) -> Result<Answer, NoMemory>
         ensures done { IfOk result (λ answer. command_done self.old.store n command ≡ (self.new.store, answer)) }
         ensures unchanged { IfOk result (λ answer. changes_store command ≡ false → self.new.store ≡ self.old.store) }

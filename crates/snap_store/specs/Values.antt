@@ -5,8 +5,11 @@ use Rattle.snap_usage.specs.declared.usage.Usage.{Usage}
 use Rattle.snap_record.specs.Labels.{Bytes, Label}
 use Rattle.snap_call.specs.declared.call.Call.TheVariants as calls
 use Rattle.snap_call.specs.declared.call.Given.TheVariants.{Nothing}
+use Rattle.snap_call.specs.declared.question.Question.{Question}
+use Rattle.snap_call.specs.declared.reply.Reply.{Reply}
 use Rattle.snap_call.specs.declared.reply.Reply.TheVariants as replies
 use Rattle.snap_call.specs.declared.state.State.{State}
+use Rattle.snap_call.specs.Questions.{reply_to}
 use Rattle.snap_call.specs.State.{place_of, ancestors, ids_of, layers_of, shown_layers}
 use Rattle.snap_call.specs.Step.{greater, one}
 use Rattle.snap_book.specs.Active.{ActiveValue, fresh}
@@ -37,3 +40,7 @@ pub record IsViewed (old new : SessionValue) (namespace key parent : Bytes) (lab
 -- a share that held so much, after a charge: the wanted amount, or else the needed one, and never less than before
 abbrev pub IsChargedTo : Usage → Usage → Usage → Usage → Type 0
 IsChargedTo held need want now = (now ≡ greater held need) ⊎ (now ≡ greater (greater held need) want)
+
+-- the answer to a question, by the state that it met: what the call that asks the same would reply of it
+abbrev pub IsAnswer : Question → Reply → Type 0
+IsAnswer question reply = (met : State) × (reply ≡ reply_to met question)

@@ -1,9 +1,11 @@
 // The close of a store, and the next round.
 ghost use Rattle.std.specs.Prelude.{◌≡◌, IfOk, OnOk, IfErr, Ok, Err, length};
 ghost use Rattle.std.specs.Option.{option_map};
+ghost use Rattle.snap_call.specs.Questions.{reply_to};
 ghost use Rattle.snap_call.specs.Records.{charge_of, open_count, sum_of};
 ghost use Rattle.snap_call.specs.State.{place_of};
 ghost use Rattle.snap_call.specs.Totals.{counted_in};
+ghost use Rattle.snap_book.specs.Questions.{chain_usage};
 ghost use Rattle.snap_book.specs.Round.{next_round, round_answer};
 ghost use Rattle.snap_round.specs.Rounds.{whole_round};
 ghost use Rattle.snap_store.specs.Rounds.{HasLayers, round_of};
@@ -11,12 +13,12 @@ ghost use Rattle.snap_store.specs.Closing.{AreSessions, HasCause, KeptBook, IsCl
 
 use crate::cause::{Cause, close_cause};
 use crate::store::{Store, begun};
-use snap_book::{Book, Refusal, SharedEntry};
+use snap_book::{Book, Question, Refusal, Reply, SharedEntry};
 use snap_call::Records;
 use snap_round::{RoundName, Tie};
 use snap_tape::{Session, TapeCount};
 use snap_usage::Usage;
-use std::alloc::Global;
+use std::alloc::{AllocError, Global};
 use std::marker::Model;
 
 /// A store that is closed: no snapshot is open, and no session calls it.
@@ -170,6 +172,22 @@ impl<N: RoundName> Closed<N> {
         ensures charge { result ≡ option_map (λ place. charge_of place self.now.state.records) (place_of namespace.now self.now.state.namespaces) }
     {
         self.book.totals(namespace)
+    }
+
+    /// What the call that asks the same would reply, as [`Book::answer`](snap_book::Book::answer) answers it, with its
+    /// cost and its memory. It leaves no entry; where memory is refused there is no answer.
+    pub fn answer(&self, question: &Question) -> Result<Reply, AllocError>
+        ensures { IfOk result (λ reply. reply ≡ reply_to self.now.state question.now) }
+    {
+        self.book.answer(question)
+    }
+
+    /// What the snapshot of this key is charged together with its committed ancestors, as
+    /// [`Book::chain_usage`](snap_book::Book::chain_usage) answers it, with its refusals and its cost.
+    pub fn chain_usage(&self, namespace: &str, key: &str) -> Result<Usage, Refusal>
+        ensures { result ≡ chain_usage self.now.state namespace.now key.now }
+    {
+        self.book.chain_usage(namespace, key)
     }
 
     /// The records of all snapshots, in order of their namespaces' places and the bytes of their keys; none is

@@ -5,11 +5,12 @@ ghost use Rattle.snap_call.specs.declared.call.Given.TheVariants.{Nothing};
 ghost use Rattle.snap_call.specs.declared.reply.Reply.TheVariants as replies;
 ghost use Rattle.snap_accounts.specs.Entries.{IsPlain};
 ghost use Rattle.snap_store.specs.Replies.{IsReplyTo};
+ghost use Rattle.snap_store.specs.Values.{IsAnswer};
 ghost use Rattle.snap_tape.specs.Tapes.{AnsweredOn, RefusedOn, Taped};
 
 use crate::note::{is_noted, note_entry};
 use crate::store::{Locked, Store};
-use snap_book::{Call, Refusal, Removed, Reply};
+use snap_book::{Call, Question, Refusal, Removed, Reply};
 use snap_mount::Mount;
 use snap_record::{Filter, Info, Labels, Sequence, Text};
 use snap_round::RoundName;
@@ -250,6 +251,18 @@ impl<N: RoundName> Store<N> {
     {
         let call = walk_call(self.alloc, namespace, after, most, asked)?;
         answer!(self.ask(rt, session, call), Reply::Page(infos) => infos)
+    }
+
+    /// What the call that asks the same would reply: the infos, the charge, the mounts or the refusal, as
+    /// [`Book::answer`](snap_book::Book::answer) answers it.
+    ///
+    /// It takes no session and leaves no entry, so it is never `JournalFull`, and a close has nothing to compare it
+    /// with. Takes memory for the answer, under the lock; where that is refused there is no answer.
+    pub fn answer<R: Wait>(&self, rt: &R, question: &Question) -> Result<Reply, AllocError>
+        ensures { IfOk result (λ reply. IsAnswer question.now reply) }
+    {
+        let locked = self.book.lock(rt);
+        locked.book.answer(question)
     }
 
     /// Makes a lease that names nothing yet, with a last moment or none (containerd's `leases.Manager.Create`).

@@ -63,7 +63,7 @@ use Rattle.snap_world.proofs.Hold.{holds, under-id}
 use Rattle.snap_world.proofs.Steps.{on_found}
 use Rattle.snap_world.proofs.Places.{hand_at-low, hand_at-other, hand_at-own, with_hand-again}
 
-cases_if : {X : Type 0} (P : X → Type 0) (b : Bool) (x y : X) → (b ≡ true → P x) → (b ≡ false → P y) → P (if b then x else y)
+pub cases_if : {X : Type 0} (P : X → Type 0) (b : Bool) (x y : X) → (b ≡ true → P x) → (b ≡ false → P y) → P (if b then x else y)
 cases_if P true x y f g = f refl
 cases_if P false x y f g = g refl
 
@@ -186,7 +186,7 @@ seals slot hands rs h r chained agree low at is =
 -- ---- calls on a hand
 
 -- the amount after a charge covers what was held
-more_of : (a b c : Usage) → Covers a c → Covers (greater a b) c
+pub more_of : (a b c : Usage) → Covers a c → Covers (greater a b) c
 more_of a b c less = record { blocks = most a.blocks b.blocks c.blocks less.blocks; inodes = most a.inodes b.inodes c.inodes less.inodes }
   where
     most : (x y z : ℕ) → z ≤ x → z ≤ max x y
@@ -535,7 +535,7 @@ within share (Ok t) next is = at (covers share (count_of t)) refl is
     at true e is = let same : t ≡ next = cc in subst (λ (l : Tree). Covers share (count_of l)) same (covers-Covers share (count_of t) e)
     at false e is = absurd (cc)
 
-fits_filed : (w : WorldValue) (slot : ℕ) (h : HandValue) (r : Record) (o : Outcome) → Fits w → slot < length w.hands → active_at slot w.state.records ≡ Some r → IsHandOf slot w.state.records h r → ((next : Tree) → o ≡ Ok next → Covers h.snapshot.share.usage (count_of next)) → Fits (with_outcome w slot h o).0
+pub fits_filed : (w : WorldValue) (slot : ℕ) (h : HandValue) (r : Record) (o : Outcome) → Fits w → slot < length w.hands → active_at slot w.state.records ≡ Some r → IsHandOf slot w.state.records h r → ((next : Tree) → o ≡ Ok next → Covers h.snapshot.share.usage (count_of next)) → Fits (with_outcome w slot h o).0
 fits_filed w slot h r (Err e) fit low stands is covers_it = fit
 fits_filed w slot h r (Ok next) fit low stands is covers_it = record {
   good = fit.good;

@@ -1,11 +1,12 @@
-mod Places
+pub mod Places
 mod Standing
 mod Summing
 mod Ends
 mod Steps
 mod Hold
 mod Does
-mod Fitting
+pub mod Fitting
 mod Opened
 mod Rounds
+pub mod Putting
 mod Running

@@ -3,6 +3,7 @@ pub mod Hand
 pub mod Move
 pub mod Runs
 pub mod Stacks
+pub mod Layers
 pub mod Quota
 pub mod Sums
 pub mod Round

@@ -1,9 +1,10 @@
 // The open snapshots of a world, each in the place of its slot. They have to be spent.
-ghost use Rattle.std.specs.Prelude.{◌≡◌, ◌<◌, false, true, replicate, Some, None, IfOk, IfErr, OnErr, IfSome, MatchOption, option_copied, length};
+ghost use Rattle.std.specs.Prelude.{◌≡◌, ◌<◌, false, true, replicate, Some, None, IfOk, IfErr, OnErr, OnOk, IfSome, MatchOption, option_copied, length};
 ghost use Rattle.snap_usage.specs.Counted.{count_of};
 ghost use Rattle.snap_book.specs.Held.{share_of};
 ghost use Rattle.snap_world.specs.World.{hand_at, with_hand};
 ghost use Rattle.snap_world.specs.Move.{is_under, is_unsealed, is_working, meets};
+ghost use Rattle.snap_world.specs.Layers.{MayHave, layer_put, open_layer};
 ghost use Rattle.snap_world.specs.Stacks.{layers_in};
 ghost use Rattle.snap_world.specs.Sums.{spare_in};
 
@@ -113,6 +114,16 @@ impl<N: StoreName> Hand<N> {
         match &self.held {
             Held::Active(active) => active.layer(),
             Held::Sealed(sealed) => sealed.layer(),
+        }
+    }
+
+    // Its layer, where it may change.
+    pub(crate) fn open_layer(&self) -> Option<&Layer>
+        ensures { option_copied result ≡ open_layer self.now }
+    {
+        match &self.held {
+            Held::Active(active) => Some(active.layer()),
+            Held::Sealed(_) => None,
         }
     }
 
@@ -265,6 +276,22 @@ impl<N: StoreName> Hands<N> {
     {
         let before = mem::replace(&mut self.list[slot as usize], Some(hand));
         let None = before else { unreachable!() };
+    }
+
+    // The layer in place of that of the slot's snapshot, where its hand may have it; else it comes back.
+    pub(crate) fn put_layer(&mut self, slot: u64, layer: Layer) -> Result<(), Layer>
+        ensures ok { OnOk result (self.new ≡ layer_put slot layer self.old) }
+        ensures may { OnOk result (MayHave layer (hand_at slot self.old)) }
+        ensures back { IfErr result (λ back. back ≡ layer) }
+        ensures same { OnErr result (self.new ≡ self.old) }
+        ensures lacks { OnErr result (¬ MayHave layer (hand_at slot self.old)) }
+    {
+        let Some(mut active) = self.take_unsealed(slot) else {
+            return Err(layer);
+        };
+        let outcome = active.put_layer(layer);
+        self.put(slot, Hand::of(active));
+        outcome
     }
 
     // All hands are given back to the book.

@@ -5,6 +5,7 @@
 #![tactic(auto)]
 
 mod hands;
+mod layer;
 mod peek;
 mod quota;
 mod round;

@@ -96,31 +96,31 @@ prepare_refused old mid new j namespace key parent labels (Err why) same n k p l
 pub discard_went : (s t : SessionValue) (slot id : ℕ) (freed held : Usage) → freed ≡ held → Taped s t (calls.Discard slot id) Nothing (replies.Discarded freed) → Went s t (discard_entry s.number slot id held ∷ [])
 discard_went s t slot id freed held is call = subst (λ (u : Usage). Went s t (discard_entry s.number slot id u ∷ [])) is (taped s t (calls.Discard slot id) Nothing (replies.Discarded freed) call)
 
-abbrev pub commit_call : ActiveValue → Bytes → Option Bytes → Call
-commit_call a name lease = calls.Commit a.share.slot a.share.id name lease None
+abbrev pub commit_call : ActiveValue → Bytes → Option Bytes → Option (List Label) → Call
+commit_call a name lease labels = calls.Commit a.share.slot a.share.id name lease labels
 
-pub commit_went : (old mid new : SessionValue) (a sealed : ActiveValue) (name text : Bytes) (lease : Option Bytes) (usage : Usage) → sealed ≡ a → text ≡ name → Untaped old mid → Taped mid new (commit_call sealed text lease) (Layer sealed.layer) (replies.Committed sealed.share.id usage)
-    → Went old new (call_entry old.number (commit_call a name lease) (Layer a.layer) (replies.Committed a.share.id usage) ∷ [])
-commit_went old mid new a sealed name text lease usage is named same call =
-    from_untaped old mid new (λ n. call_entry n (commit_call a name lease) (Layer a.layer) (replies.Committed a.share.id usage) ∷ []) same
-    (subst (λ (x : ActiveValue). Went mid new (call_entry mid.number (commit_call x name lease) (Layer x.layer) (replies.Committed x.share.id usage) ∷ [])) is
-    (subst (λ (x : Bytes). Went mid new (call_entry mid.number (commit_call sealed x lease) (Layer sealed.layer) (replies.Committed sealed.share.id usage) ∷ [])) named
-    (taped mid new (commit_call sealed text lease) (Layer sealed.layer) (replies.Committed sealed.share.id usage) call)))
+pub commit_went : (old mid new : SessionValue) (a sealed : ActiveValue) (name text : Bytes) (lease : Option Bytes) (labels : Option (List Label)) (usage : Usage) → sealed ≡ a → text ≡ name → Untaped old mid → Taped mid new (commit_call sealed text lease labels) (Layer sealed.layer) (replies.Committed sealed.share.id usage)
+    → Went old new (call_entry old.number (commit_call a name lease labels) (Layer a.layer) (replies.Committed a.share.id usage) ∷ [])
+commit_went old mid new a sealed name text lease labels usage is named same call =
+    from_untaped old mid new (λ n. call_entry n (commit_call a name lease labels) (Layer a.layer) (replies.Committed a.share.id usage) ∷ []) same
+    (subst (λ (x : ActiveValue). Went mid new (call_entry mid.number (commit_call x name lease labels) (Layer x.layer) (replies.Committed x.share.id usage) ∷ [])) is
+    (subst (λ (x : Bytes). Went mid new (call_entry mid.number (commit_call sealed x lease labels) (Layer sealed.layer) (replies.Committed sealed.share.id usage) ∷ [])) named
+    (taped mid new (commit_call sealed text lease labels) (Layer sealed.layer) (replies.Committed sealed.share.id usage) call)))
 
 -- a refused commit, after which the snapshot that came back is discarded
-pub commit_refused : (old mid new end : SessionValue) (a sealed back : ActiveValue) (name text : Bytes) (lease : Option Bytes) (why : Refusal) → sealed ≡ a → back ≡ sealed → text ≡ name → Untaped old mid → RefusedOn mid new (commit_call sealed text lease) (Layer sealed.layer) why → Went new end (discard_entry new.number back.share.slot back.share.id back.share.usage ∷ [])
-    → Went old end (refused_entry old.number (commit_call a name lease) (Layer a.layer) why ++ discard_entry old.number a.share.slot a.share.id a.share.usage ∷ [])
-commit_refused old mid new end a sealed back name text lease why is came named same by went =
-    let call = subst (λ (x : ActiveValue). RefusedOn mid new (commit_call x name lease) (Layer x.layer) why) is (subst (λ (x : Bytes). RefusedOn mid new (commit_call sealed x lease) (Layer sealed.layer) why) named by) in
-    let first = from_untaped old mid new (λ n. refused_entry n (commit_call a name lease) (Layer a.layer) why) same (refused mid new (commit_call a name lease) (Layer a.layer) why call) in
-    then_so old new end (refused_entry old.number (commit_call a name lease) (Layer a.layer) why) (λ n. discard_entry n a.share.slot a.share.id a.share.usage ∷ []) first
+pub commit_refused : (old mid new end : SessionValue) (a sealed back : ActiveValue) (name text : Bytes) (lease : Option Bytes) (labels : Option (List Label)) (why : Refusal) → sealed ≡ a → back ≡ sealed → text ≡ name → Untaped old mid → RefusedOn mid new (commit_call sealed text lease labels) (Layer sealed.layer) why → Went new end (discard_entry new.number back.share.slot back.share.id back.share.usage ∷ [])
+    → Went old end (refused_entry old.number (commit_call a name lease labels) (Layer a.layer) why ++ discard_entry old.number a.share.slot a.share.id a.share.usage ∷ [])
+commit_refused old mid new end a sealed back name text lease labels why is came named same by went =
+    let call = subst (λ (x : ActiveValue). RefusedOn mid new (commit_call x name lease labels) (Layer x.layer) why) is (subst (λ (x : Bytes). RefusedOn mid new (commit_call sealed x lease labels) (Layer sealed.layer) why) named by) in
+    let first = from_untaped old mid new (λ n. refused_entry n (commit_call a name lease labels) (Layer a.layer) why) same (refused mid new (commit_call a name lease labels) (Layer a.layer) why call) in
+    then_so old new end (refused_entry old.number (commit_call a name lease labels) (Layer a.layer) why) (λ n. discard_entry n a.share.slot a.share.id a.share.usage ∷ []) first
     (subst (λ (x : ActiveValue). Went new end (discard_entry new.number x.share.slot x.share.id x.share.usage ∷ [])) (came ∙ is) went)
 
 -- no memory for the commit, and the snapshot is discarded
-pub commit_none : (old mid end : SessionValue) (a back : ActiveValue) (name : Bytes) (lease : Option Bytes) (why : Refusal) → back ≡ a → why ≡ OutOfMemory no_memory → Untaped old mid → Went mid end (discard_entry mid.number back.share.slot back.share.id back.share.usage ∷ [])
-    → Went old end (refused_entry old.number (commit_call a name lease) (Layer a.layer) why ++ discard_entry old.number a.share.slot a.share.id a.share.usage ∷ [])
-commit_none old mid end a back name lease why is memory same went =
-    subst (λ (w : Refusal). Went old end (refused_entry old.number (commit_call a name lease) (Layer a.layer) w ++ discard_entry old.number a.share.slot a.share.id a.share.usage ∷ [])) (sym memory)
+pub commit_none : (old mid end : SessionValue) (a back : ActiveValue) (name : Bytes) (lease : Option Bytes) (labels : Option (List Label)) (why : Refusal) → back ≡ a → why ≡ OutOfMemory no_memory → Untaped old mid → Went mid end (discard_entry mid.number back.share.slot back.share.id back.share.usage ∷ [])
+    → Went old end (refused_entry old.number (commit_call a name lease labels) (Layer a.layer) why ++ discard_entry old.number a.share.slot a.share.id a.share.usage ∷ [])
+commit_none old mid end a back name lease labels why is memory same went =
+    subst (λ (w : Refusal). Went old end (refused_entry old.number (commit_call a name lease labels) (Layer a.layer) w ++ discard_entry old.number a.share.slot a.share.id a.share.usage ∷ [])) (sym memory)
     (from_untaped old mid end (λ n. discard_entry n a.share.slot a.share.id a.share.usage ∷ []) same (subst (λ (x : ActiveValue). Went mid end (discard_entry mid.number x.share.slot x.share.id x.share.usage ∷ [])) is went))
 
 -- ---- several operations

@@ -72,11 +72,11 @@ module _ (inodes : ℕ) (j : Job) (a : ActiveValue) (chain : List ℕ) (base : j
 
   -- all operations are done, and it has its end
   ended_at : (s t u : SessionValue) (b : ActiveValue) (end : Ended) → IsSameSnapshot a b → all_after j.ops a.layer a.lowers ≡ Ok b.layer → HasOperated j a s t [] → HasEnded j t u b end → IsRunOf ⊥ inodes s u j (prepared_entry s.number j a.share.slot a.share.id chain ∷ []) end
-  ended_at s t u b (ended.Committed id usage) same done was (name, lease, end, told, count, went) =
+  ended_at s t u b (ended.Committed id usage) same done was (name, lease, labels, end, told, count, went) =
       let made = ap (λ (l : Tree). all_after j.ops l a.lowers) (sym layer) ∙ done in
-      let entry : ℕ → Entry = λ n. call_entry n (calls.Commit a.share.slot a.share.id name lease None) (Layer b.layer) (replies.Committed a.share.id usage) in
-      let at = subst (λ k. Went t u (call_entry t.number (calls.Commit a.share.slot k name lease None) (Layer b.layer) (replies.Committed k usage) ∷ [])) same.id
-      (subst (λ slot. Went t u (call_entry t.number (calls.Commit slot b.share.id name lease None) (Layer b.layer) (replies.Committed b.share.id usage) ∷ [])) same.slot went) in
+      let entry : ℕ → Entry = λ n. call_entry n (calls.Commit a.share.slot a.share.id name lease labels) (Layer b.layer) (replies.Committed a.share.id usage) in
+      let at = subst (λ k. Went t u (call_entry t.number (calls.Commit a.share.slot k name lease labels) (Layer b.layer) (replies.Committed k usage) ∷ [])) same.id
+      (subst (λ slot. Went t u (call_entry t.number (calls.Commit slot b.share.id name lease labels) (Layer b.layer) (replies.Committed b.share.id usage) ∷ [])) same.slot went) in
       let all = operated_then j a s t u [] (λ n. entry n ∷ []) was at in
       let own : IsEndOf ⊥ s.number inodes j (ended.Committed a.share.id usage) (prepared_entry s.number j a.share.slot a.share.id chain ∷ (all.charges ++ entry s.number ∷ [])) = record {
         slot = a.share.slot;
@@ -84,6 +84,7 @@ module _ (inodes : ℕ) (j : Job) (a : ActiveValue) (chain : List ℕ) (base : j
         layer = b.layer;
         name = name;
         lease = lease;
+        labels = labels;
         end = end;
         made = made;
         count = count;
@@ -109,10 +110,10 @@ module _ (inodes : ℕ) (j : Job) (a : ActiveValue) (chain : List ℕ) (base : j
           dropped = record { held = b.share.usage; entries = has_calls s u (discard_entry s.number a.share.slot a.share.id b.share.usage ∷ []) all };
         };
       }
-  ended_at s t u b (ended.NotCommitted why) same done was (name, lease, end, went) =
-      let call : ℕ → List Entry = λ n. refused_entry n (calls.Commit a.share.slot a.share.id name lease None) (Layer b.layer) why in
-      let at = subst (λ k. Went t u (refused_entry t.number (calls.Commit a.share.slot k name lease None) (Layer b.layer) why ++ discard_entry t.number a.share.slot k b.share.usage ∷ [])) same.id
-      (subst (λ slot. Went t u (refused_entry t.number (calls.Commit slot b.share.id name lease None) (Layer b.layer) why ++ discard_entry t.number slot b.share.id b.share.usage ∷ [])) same.slot went) in
+  ended_at s t u b (ended.NotCommitted why) same done was (name, lease, labels, end, went) =
+      let call : ℕ → List Entry = λ n. refused_entry n (calls.Commit a.share.slot a.share.id name lease labels) (Layer b.layer) why in
+      let at = subst (λ k. Went t u (refused_entry t.number (calls.Commit a.share.slot k name lease labels) (Layer b.layer) why ++ discard_entry t.number a.share.slot k b.share.usage ∷ [])) same.id
+      (subst (λ slot. Went t u (refused_entry t.number (calls.Commit slot b.share.id name lease labels) (Layer b.layer) why ++ discard_entry t.number slot b.share.id b.share.usage ∷ [])) same.slot went) in
       let all = operated_then j a s t u [] (λ n. call n ++ discard_entry n a.share.slot a.share.id b.share.usage ∷ []) was at in
       record {
         mine = all.charges ++ (call s.number ++ discard_entry s.number a.share.slot a.share.id b.share.usage ∷ []);
@@ -124,6 +125,7 @@ module _ (inodes : ℕ) (j : Job) (a : ActiveValue) (chain : List ℕ) (base : j
           layer = b.layer;
           name = name;
           lease = lease;
+          labels = labels;
           end = end;
           made = ap (λ (l : Tree). all_after j.ops l a.lowers) (sym layer) ∙ done;
           dropped = record { held = b.share.usage; entries = has_calls s u (call s.number ++ discard_entry s.number a.share.slot a.share.id b.share.usage ∷ []) all };

@@ -107,7 +107,7 @@ quiet_end S inodes origin n j ended.NoThread mine none own = absurd own
 quiet_end S inodes origin n j (ended.Failed place error) mine none own =
     quiet_dropped origin n inodes j own.slot own.id own.lowers mine own.entry own.dropped (quiet_error origin n j own.slot own.id error own.undone.op own.undone.at own.lowers own.entry own.undone.why)
 quiet_end S inodes origin n j (ended.NotCommitted why) mine none own =
-    quiet_dropped origin n inodes j own.slot own.id own.lowers mine _ own.dropped (quiet_refused origin n (calls.Commit own.slot own.id own.name own.lease None) (Layer own.layer) why tt)
+    quiet_dropped origin n inodes j own.slot own.id own.lowers mine _ own.dropped (quiet_refused origin n (calls.Commit own.slot own.id own.name own.lease own.labels) (Layer own.layer) why tt)
 quiet_end S inodes origin n j ended.NotRun mine none (stopped, inl empty) = subst (IsQuiet origin) (sym empty) (record { none = refl; keeps = tt })
 quiet_end S inodes origin n j ended.NotRun mine none (stopped, inr own) = quiet_dropped origin n inodes j own.slot own.id own.lowers mine [] own.dropped (record { none = refl; keeps = tt })
 
@@ -115,12 +115,12 @@ quiet_end S inodes origin n j ended.NotRun mine none (stopped, inr own) = quiet_
 
 committed_left : (inodes : ℕ) (origin : ℕ → Origin) (n : ℕ) (j : Job) (id : ℕ) (usage : Usage) (mine : List Entry) → AreOrigins origin mine → IsCommitted n inodes j id usage mine → AllZip (IsStoredOf inodes) (with_end j (ended.Committed id usage) []) (commits origin mine)
 committed_left inodes origin n j id usage mine are is = subst (AllZip (IsStoredOf inodes) (with_end j (ended.Committed id usage) [])) (sym stored) (
-  record { namespace = ap (λ (o : Origin). o.namespace) from; name = (is.lease, is.end); parent = ap (λ (o : Origin). o.parent) from; id = refl; made = record { lowers = is.lowers; base = is.entries.base; made = is.made }; count = is.count },
+  record { namespace = ap (λ (o : Origin). o.namespace) from; name = (is.lease, is.labels, is.end); parent = ap (λ (o : Origin). o.parent) from; id = refl; made = record { lowers = is.lowers; base = is.entries.base; made = is.made }; count = is.count },
   tt,
 )
   where
     last : Entry
-    last = call_entry n (calls.Commit is.slot id is.name is.lease None) (Layer is.layer) (replies.Committed id usage)
+    last = call_entry n (calls.Commit is.slot id is.name is.lease is.labels) (Layer is.layer) (replies.Committed id usage)
 
     charges : IsQuiet origin is.entries.charges
     charges = quiet_charges origin n j is.slot id _ is.lowers is.entries.charges is.entries.needed
@@ -169,7 +169,7 @@ no_origin id = record { namespace = []; parent = [] }
 keeps_end : (S : Type 0) (inodes n : ℕ) (j : Job) (e : Ended) (mine : List Entry) → IsEndOf S n inodes j e mine → AreKeeping mine
 keeps_end S inodes n j (ended.Committed id usage) mine own =
     let charges = quiet_charges no_origin n j own.slot id _ own.lowers own.entries.charges own.entries.needed in
-    subst AreKeeping (sym own.entries.are) (tt, all_append (λ e. IsKeeping e.call) own.entries.charges (call_entry n (calls.Commit own.slot id own.name own.lease None) (Layer own.layer) (replies.Committed id usage) ∷ []) charges.keeps (tt, tt))
+    subst AreKeeping (sym own.entries.are) (tt, all_append (λ e. IsKeeping e.call) own.entries.charges (call_entry n (calls.Commit own.slot id own.name own.lease own.labels) (Layer own.layer) (replies.Committed id usage) ∷ []) charges.keeps (tt, tt))
 keeps_end S inodes n j e mine own = (quiet_end S inodes no_origin n j e mine refl own).keeps
 
 keeps_ends : (S : Type 0) (inodes n : ℕ) (js : List Job) (es : List Ended) (entries : List Entry) → AreEnds S n inodes js es entries → AreKeeping entries

@@ -4,7 +4,7 @@ use Rattle.std.specs.List.{AllByRecursion}
 use Rattle.snap_layer.specs.Tree.{Tree}
 use Rattle.snap_usage.specs.Counted.{count_of}
 use Rattle.snap_usage.specs.declared.usage.Usage.{Usage}
-use Rattle.snap_record.specs.Labels.{Bytes}
+use Rattle.snap_record.specs.Labels.{Bytes, Label}
 use Rattle.snap_call.specs.declared.call.Call.TheVariants as calls
 use Rattle.snap_call.specs.declared.call.Given.TheVariants.{Nothing, Layer}
 use Rattle.snap_call.specs.declared.entry.Entry.{Entry}
@@ -57,9 +57,9 @@ IsStopOf S n j a (Failed place error) entry = IsUndone n j a.share.slot a.share.
 
 -- the snapshot was committed or discarded as the job's end says; or the commit was refused, and it was discarded
 abbrev pub HasEnded : Job → SessionValue → SessionValue → ActiveValue → Ended → Type 0
-HasEnded j old new a (ended.Committed id usage) = (name : Bytes) × (lease : Option Bytes) × (j.end ≡ ends.Commit name lease) × (id ≡ a.share.id) × (usage ≡ count_of a.layer) × Went old new (call_entry old.number (calls.Commit a.share.slot a.share.id name lease None) (Layer a.layer) (replies.Committed a.share.id usage) ∷ [])
+HasEnded j old new a (ended.Committed id usage) = (name : Bytes) × (lease : Option Bytes) × (labels : Option (List Label)) × (j.end ≡ ends.Commit name lease labels) × (id ≡ a.share.id) × (usage ≡ count_of a.layer) × Went old new (call_entry old.number (calls.Commit a.share.slot a.share.id name lease labels) (Layer a.layer) (replies.Committed a.share.id usage) ∷ [])
 HasEnded j old new a ended.Discarded = (j.end ≡ ends.Discard) × Went old new (discard_entry old.number a.share.slot a.share.id a.share.usage ∷ [])
-HasEnded j old new a (ended.NotCommitted why) = (name : Bytes) × (lease : Option Bytes) × (j.end ≡ ends.Commit name lease) × Went old new (refused_entry old.number (calls.Commit a.share.slot a.share.id name lease None) (Layer a.layer) why ++ discard_entry old.number a.share.slot a.share.id a.share.usage ∷ [])
+HasEnded j old new a (ended.NotCommitted why) = (name : Bytes) × (lease : Option Bytes) × (labels : Option (List Label)) × (j.end ≡ ends.Commit name lease labels) × Went old new (refused_entry old.number (calls.Commit a.share.slot a.share.id name lease labels) (Layer a.layer) why ++ discard_entry old.number a.share.slot a.share.id a.share.usage ∷ [])
 HasEnded j old new a end = ⊥
 
 -- these entries are the rest of the job's, whose first are those before, and the job ended so

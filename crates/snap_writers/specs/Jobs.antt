@@ -5,7 +5,7 @@ use Rattle.snap_path.specs.Memory.{no_memory}
 use Rattle.snap_layer.specs.Tree.{Tree}
 use Rattle.snap_usage.specs.Counted.{count_of}
 use Rattle.snap_usage.specs.declared.usage.Usage.{Usage}
-use Rattle.snap_record.specs.Labels.{Bytes}
+use Rattle.snap_record.specs.Labels.{Bytes, Label}
 use Rattle.snap_merge.specs.declared.error.FsError.TheVariants as errors
 use Rattle.snap_upper.specs.declared.op.Op.{Op}
 use Rattle.snap_upper.specs.After.{Outcome, after}
@@ -152,10 +152,11 @@ pub record IsCommitted (n inodes : ℕ) (j : Job) (id : ℕ) (usage : Usage) (mi
   pub layer : Tree
   pub name : Bytes
   pub lease : Option Bytes
-  pub end : j.end ≡ ends.Commit name lease
+  pub labels : Option (List Label)
+  pub end : j.end ≡ ends.Commit name lease labels
   pub made : all_after j.ops (fresh inodes lowers) lowers ≡ Ok layer
   pub count : usage ≡ count_of layer
-  pub entries : HasCalls n inodes j slot id lowers mine (call_entry n (calls.Commit slot id name lease None) (Layer layer) (replies.Committed id usage) ∷ [])
+  pub entries : HasCalls n inodes j slot id lowers mine (call_entry n (calls.Commit slot id name lease labels) (Layer layer) (replies.Committed id usage) ∷ [])
 
 -- the commit as its end says was refused so, once its operations were done, and its snapshot was discarded
 pub record IsNotCommitted (n inodes : ℕ) (j : Job) (why : Refusal) (mine : List Entry) : Type 0 where
@@ -165,9 +166,10 @@ pub record IsNotCommitted (n inodes : ℕ) (j : Job) (why : Refusal) (mine : Lis
   pub layer : Tree
   pub name : Bytes
   pub lease : Option Bytes
-  pub end : j.end ≡ ends.Commit name lease
+  pub labels : Option (List Label)
+  pub end : j.end ≡ ends.Commit name lease labels
   pub made : all_after j.ops (fresh inodes lowers) lowers ≡ Ok layer
-  pub dropped : IsDropped n inodes j slot id lowers mine (refused_entry n (calls.Commit slot id name lease None) (Layer layer) why)
+  pub dropped : IsDropped n inodes j slot id lowers mine (refused_entry n (calls.Commit slot id name lease labels) (Layer layer) why)
 
 -- its end is to discard, and its snapshot was discarded once its operations were done
 pub record IsDiscarded (n inodes : ℕ) (j : Job) (mine : List Entry) : Type 0 where
@@ -283,7 +285,7 @@ IsEnded S inodes j end = ((n : ℕ) × (mine : List Entry) × IsEndOf S n inodes
 -- the committed snapshot is the job's: of its namespace, under its name and over its parent, of the id that its end tells, with the layer that the job's operations make; and the usage that its end tells is the count over it
 pub record IsStoredOf (inodes : ℕ) (d : Done) (s : Stored) : Type 0 where
   pub namespace : s.namespace ≡ d.job.namespace
-  pub name : (lease : Option Bytes) × (d.job.end ≡ ends.Commit s.name lease)
+  pub name : (lease : Option Bytes) × (labels : Option (List Label)) × (d.job.end ≡ ends.Commit s.name lease labels)
   pub parent : s.parent ≡ d.job.parent
   pub id : s.id ≡ d.id
   pub made : IsMadeBy inodes d.job s.layer

@@ -5,7 +5,7 @@ ghost use Rattle.snap_writers.specs.Jobs.{HasStoppedWorker, IsWorked};
 use crate::running::RunError;
 use snap_book::Refusal;
 use snap_path::NoMemory;
-use snap_record::{Sequence, Text};
+use snap_record::{Labels, Sequence, Text};
 use snap_store::{Closed, NotClosed, RoundName, Session, Store};
 use snap_upper::Op;
 use snap_usage::Usage;
@@ -14,8 +14,13 @@ use std::thread::Promise;
 /// What becomes of a job's snapshot once all its operations are done.
 #[derive(Debug, Drop)]
 pub enum End {
-    /// It is committed under the name, and named in the lease where one is given.
-    Commit { name: Text, lease: Option<Text> },
+    /// It is committed under the name, with the labels in place of its own where they are given, and named in the
+    /// lease where one is given.
+    Commit {
+        name: Text,
+        lease: Option<Text>,
+        labels: Option<Labels>,
+    },
     /// It is discarded.
     Discard,
 }

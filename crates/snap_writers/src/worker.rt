@@ -149,13 +149,14 @@ impl<'a, N: RoundName, R: Wait, G: Gate> Worker<'a, N, R, G> {
         active: Active<N>,
         name: &Text,
         lease: &Option<Text>,
+        labels: &Option<Labels>,
     ) -> Result<Usage, Refusal>
         requires room { 0 < self.old.session.spare }
         ensures granted { IfOk result (λ usage. Went self.old.session self.new.session
-            (call_entry self.old.session.number (calls.Commit active.share.slot active.share.id name.now lease.now None) (Layer active.layer) (replies.Committed active.share.id usage) ∷ [])) }
+            (call_entry self.old.session.number (calls.Commit active.share.slot active.share.id name.now lease.now labels.now) (Layer active.layer) (replies.Committed active.share.id usage) ∷ [])) }
         ensures count { IfOk result (λ usage. usage ≡ count_of active.layer) }
         ensures refused { IfErr result (λ why. Went self.old.session self.new.session
-            (refused_entry self.old.session.number (calls.Commit active.share.slot active.share.id name.now lease.now None) (Layer active.layer) why
+            (refused_entry self.old.session.number (calls.Commit active.share.slot active.share.id name.now lease.now labels.now) (Layer active.layer) why
             ++ discard_entry self.old.session.number active.share.slot active.share.id active.share.usage ∷ [])) }
         ensures fixed { self.new.fixed ≡ self.old.fixed }
     {
@@ -175,7 +176,7 @@ impl<'a, N: RoundName, R: Wait, G: Gate> Worker<'a, N, R, G> {
             &mut self.session,
             name.as_str(),
             lease,
-            &None,
+            labels,
             sealed,
         ) {
             Ok(usage) => Ok(usage),
@@ -195,9 +196,13 @@ impl<'a, N: RoundName, R: Wait, G: Gate> Worker<'a, N, R, G> {
     {
         self.may_step = false;
         match &job.end {
-            End::Commit { name, lease } => {
+            End::Commit {
+                name,
+                lease,
+                labels,
+            } => {
                 let id = active.id();
-                match self.commit(active, name, lease) {
+                match self.commit(active, name, lease, labels) {
                     Ok(usage) => Ended::Committed { id, usage },
                     Err(why) => Ended::NotCommitted(why),
                 }

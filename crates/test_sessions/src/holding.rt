@@ -4,7 +4,7 @@ use crate::round::{Round, session_at};
 use snap_book::{Held, Reply};
 use snap_merge::FsError;
 use snap_record::{Labels, Text};
-use snap_script::Answer;
+use snap_script::{Answer, Field};
 use snap_store::RoundName;
 use snap_upper::Op;
 use snap_usage::Usage;
@@ -91,11 +91,11 @@ impl<'a, N: RoundName, R: Wait> Round<'a, N, R> {
         n: u64,
         namespace: &str,
         key: &str,
-        operation: &Option<Op>,
+        operation: &Result<Op, Field>,
         extra: Usage,
     ) -> Result<Answer, Refused> {
         let place = self.found(namespace, key)?;
-        let Some(op) = operation else {
+        let Ok(op) = operation else {
             return Err(Refused::File(FsError::BadPath));
         };
         let Some(hand) = self.hands.get_mut(place) else {

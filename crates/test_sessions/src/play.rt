@@ -17,6 +17,7 @@ impl<'a, N: RoundName, R: Wait> Round<'a, N, R> {
         match command {
             Command::Session => Ok(Answer::Session(self.open_session()?)),
             Command::Call(call) => Ok(Answer::Reply(self.reply(n, call)?)),
+            Command::Ask(question) => Ok(Answer::Reply(self.store.answer(self.rt, question)?)),
             Command::Charge {
                 namespace,
                 key,
@@ -80,7 +81,6 @@ impl<'a, N: RoundName, R: Wait> Round<'a, N, R> {
             }
             Command::Lookup { peek: true, .. }
             | Command::Batch { .. }
-            | Command::Ask(_)
             | Command::TrySweep { .. }
             | Command::ChainUsage { .. }
             | Command::Quota { .. }

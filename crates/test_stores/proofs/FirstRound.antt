@@ -49,7 +49,7 @@ own_all (e ∷ es) all =
     let none : e.session ≡ 0 = omega (arith, All-head (λ x. x.session < 1) e es all) in
     subst (λ (b : Bool). cond b (e ∷ session_entries es 0) (session_entries es 0) ≡ e ∷ es) (sym (eq-eqb e.session 0 none)) (ap (λ (l : List Entry). e ∷ l) (own_all es (All-tail (λ x. x.session < 1) e es all)))
 
-one_session : (journal : List Entry) (s : SessionValue) → AreSessions journal (s ∷ []) → journal ≡ s.tape
+pub one_session : (journal : List Entry) (s : SessionValue) → AreSessions journal (s ∷ []) → journal ≡ s.tape
 one_session journal s are =
     let none : s.number ≡ 0 = omega (arith, All-head (λ (x : SessionValue). x.number < 1) s [] are.all.once.inside) in
     sym (All-head (IsOwn journal) s [] are.tapes ∙ (ap (session_entries journal) none ∙ own_all journal are.all.known))

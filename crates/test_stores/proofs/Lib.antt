@@ -3,4 +3,6 @@ mod Spaces
 mod FirstLayer
 mod FirstTape
 mod FirstRound
+mod JobLabels
 mod Witnesses
+mod Told

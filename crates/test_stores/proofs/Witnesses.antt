@@ -15,7 +15,16 @@ use Rattle.snap_call.specs.declared.refusal.Refusal.{Refusal}
 use Rattle.snap_call.specs.declared.refusal.Refusal.TheVariants as refusals
 use Rattle.snap_call.specs.declared.reply.Reply.{Reply}
 use Rattle.snap_call.specs.declared.reply.Reply.TheVariants as replies
+use Rattle.snap_call.specs.declared.question.Question.TheVariants as questions
+use Rattle.snap_call.specs.Forms.{is_key}
 use Rattle.snap_call.specs.Journal.{call_entry}
+use Rattle.snap_call.specs.Records.{record_at}
+use Rattle.snap_call.specs.State.{place_of}
+use Rattle.snap_call.specs.Step.{counted, in_namespace, refused}
+use Rattle.snap_record.specs.Records.{info_of}
+use Rattle.snap_record.specs.declared.record.Record.{Record}
+use Rattle.std.specs.Prelude.{if◌then◌else◌}
+use Rattle.std.specs.Option.{option_map_or}
 use Rattle.snap_upper.specs.declared.op.Op.{Op}
 use Rattle.snap_upper.specs.After.{after}
 use Rattle.snap_book.specs.Active.{ActiveValue, fresh}
@@ -25,7 +34,7 @@ use Rattle.snap_round.specs.declared.rule.Round.{Round}
 use Rattle.snap_tape.specs.Tapes.{SessionValue}
 use Rattle.snap_store.specs.declared.cause.Cause.TheVariants.{StillOut}
 use Rattle.snap_store.specs.Closing.{HasCause}
-use Rattle.snap_store.specs.Values.{IsPrepared}
+use Rattle.snap_store.specs.Values.{IsAnswer, IsPrepared}
 use Rattle.snap_writers.specs.declared.job.End.{End}
 use Rattle.snap_writers.specs.declared.job.End.TheVariants as ends
 use Rattle.snap_writers.specs.declared.job.Ended.{Ended}
@@ -47,6 +56,28 @@ prepared_within inodes other old new namespace key parent labels a is of_other =
 pub open_ones_named : (r : Round) (sessions : List SessionValue) → HasCause r sessions (StillOut []) → ⊥
 open_ones_named r sessions (b, round, kept, why) = absurd (omega (arith, why.0, sym (length-map _ _) ∙ ap length (sym why.1)))
 
+-- a reply to a stat
+abbrev is_of_stat : Reply → Type 0
+is_of_stat (replies.Refused why) = Unit {0}
+is_of_stat (replies.Info info) = Unit {0}
+is_of_stat reply = ⊥
+
+-- `IsAnswer`: the question of a stat is answered by an info or refused
+pub stat_is_answered : (namespace key : Bytes) (reply : Reply) → IsAnswer (questions.Stat namespace key) reply → is_of_stat reply
+stat_is_answered namespace key reply (met, is) = subst is_of_stat (sym is) (asked (is_key key))
+  where
+    at : (o : Option Record) → is_of_stat (option_map_or (λ (r : Record). (counted met, replies.Info (info_of r))) o (refused met refusals.NotFound)).1
+    at None = tt
+    at (Some r) = tt
+
+    placed : (o : Option ℕ) → is_of_stat (option_map_or (λ (place : ℕ). option_map_or (λ (r : Record). (counted met, replies.Info (info_of r))) (record_at place key met.records) (refused met refusals.NotFound)) o (refused met refusals.NoNamespace)).1
+    placed None = tt
+    placed (Some place) = at (record_at place key met.records)
+
+    asked : (b : Bool) → is_of_stat (if b then in_namespace met namespace (λ place. option_map_or (λ (r : Record). (counted met, replies.Info (info_of r))) (record_at place key met.records) (refused met refusals.NotFound)) else refused met refusals.BadArgument).1
+    asked true = placed (place_of namespace met.namespaces)
+    asked false = tt
+
 -- ---- a worker
 
 -- `HasStoppedWorker`: a gate that lets all pass has stopped none
@@ -55,19 +86,19 @@ none_stopped worker (step, stopped) = absurd (cc)
 
 -- `HasEnded`: a job that was to be discarded isn't told as committed
 pub discarded_not_committed : (j : Job) (old new : SessionValue) (a : ActiveValue) (id : ℕ) (usage : Usage) → j.end ≡ ends.Discard → HasEnded j old new a (ended.Committed id usage) → ⊥
-discarded_not_committed j old new a id usage asked (name, lease, end, is, count, went) = let e = sym end ∙ asked in absurd (cc)
+discarded_not_committed j old new a id usage asked (name, lease, labels, end, is, count, went) = let e = sym end ∙ asked in absurd (cc)
 
 -- nor as one whose commit was refused
 pub discarded_not_refused : (j : Job) (old new : SessionValue) (a : ActiveValue) (why : Refusal) → j.end ≡ ends.Discard → HasEnded j old new a (ended.NotCommitted why) → ⊥
-discarded_not_refused j old new a why asked (name, lease, end, went) = let e = sym end ∙ asked in absurd (cc)
+discarded_not_refused j old new a why asked (name, lease, labels, end, went) = let e = sym end ∙ asked in absurd (cc)
 
 -- one that was to be committed isn't told as discarded
-pub commit_not_discarded : (j : Job) (old new : SessionValue) (a : ActiveValue) (name : Bytes) (lease : Option Bytes) → j.end ≡ ends.Commit name lease → HasEnded j old new a ended.Discarded → ⊥
-commit_not_discarded j old new a name lease asked (end, went) = let e = sym end ∙ asked in absurd (cc)
+pub commit_not_discarded : (j : Job) (old new : SessionValue) (a : ActiveValue) (name : Bytes) (lease : Option Bytes) (labels : Option (List Label)) → j.end ≡ ends.Commit name lease labels → HasEnded j old new a ended.Discarded → ⊥
+commit_not_discarded j old new a name lease labels asked (end, went) = let e = sym end ∙ asked in absurd (cc)
 
 -- a committed one is told with its own id
 pub committed_id : (j : Job) (old new : SessionValue) (a : ActiveValue) (id : ℕ) (usage : Usage) → HasEnded j old new a (ended.Committed id usage) → id ≡ a.share.id
-committed_id j old new a id usage (name, lease, end, is, count, went) = is
+committed_id j old new a id usage (name, lease, labels, end, is, count, went) = is
 
 -- a session's tape went on by one list of entries
 same_entries : (old new : SessionValue) (xs ys : List Entry) → Went old new xs → Went old new ys → xs ≡ ys
@@ -88,24 +119,46 @@ told_of n call given (refusals.OutOfMemory want) rest e = absurd (omega (arith, 
 told_of n call given why rest e = ap refusal_in e
 
 abbrev name_in : End → Bytes
-name_in (ends.Commit name lease) = name
+name_in (ends.Commit name lease labels) = name
 name_in ends.Discard = []
 
 abbrev lease_in : End → Option Bytes
-lease_in (ends.Commit name lease) = lease
+lease_in (ends.Commit name lease labels) = lease
 lease_in ends.Discard = None
 
+abbrev labels_in : End → Option (List Label)
+labels_in (ends.Commit name lease labels) = labels
+labels_in ends.Discard = None
+
 -- a refused commit is told with its refusal
-pub refused_commit_told : (j : Job) (old new : SessionValue) (a : ActiveValue) (name : Bytes) (lease : Option Bytes) (told : Refusal)
-    → j.end ≡ ends.Commit name lease
-    → Went old new (call_entry old.number (calls.Commit a.share.slot a.share.id name lease None) (Layer a.layer) (replies.Refused refusals.AlreadyExists) ∷ discard_entry old.number a.share.slot a.share.id a.share.usage ∷ [])
+pub refused_commit_told : (j : Job) (old new : SessionValue) (a : ActiveValue) (name : Bytes) (lease : Option Bytes) (labels : Option (List Label)) (told : Refusal)
+    → j.end ≡ ends.Commit name lease labels
+    → Went old new (call_entry old.number (calls.Commit a.share.slot a.share.id name lease labels) (Layer a.layer) (replies.Refused refusals.AlreadyExists) ∷ discard_entry old.number a.share.slot a.share.id a.share.usage ∷ [])
     → HasEnded j old new a (ended.NotCommitted told) → told ≡ refusals.AlreadyExists
-refused_commit_told j old new a name lease told asked went (named, leased, end, mine) =
+refused_commit_told j old new a name lease labels told asked went (named, leased, labelled, end, mine) =
     let same = sym end ∙ asked in
     let discard = discard_entry old.number a.share.slot a.share.id a.share.usage ∷ [] in
-    let at_name = subst (λ (b : Bytes). Went old new (refused_entry old.number (calls.Commit a.share.slot a.share.id b leased None) (Layer a.layer) told ++ discard)) (ap name_in same) mine in
-    let at = subst (λ (l : Option Bytes). Went old new (refused_entry old.number (calls.Commit a.share.slot a.share.id name l None) (Layer a.layer) told ++ discard)) (ap lease_in same) at_name in
-    told_of old.number (calls.Commit a.share.slot a.share.id name lease None) (Layer a.layer) told discard (same_entries old new _ _ at went)
+    let at_name = subst (λ (b : Bytes). Went old new (refused_entry old.number (calls.Commit a.share.slot a.share.id b leased labelled) (Layer a.layer) told ++ discard)) (ap name_in same) mine in
+    let at_lease = subst (λ (l : Option Bytes). Went old new (refused_entry old.number (calls.Commit a.share.slot a.share.id name l labelled) (Layer a.layer) told ++ discard)) (ap lease_in same) at_name in
+    let at = subst (λ (l : Option (List Label)). Went old new (refused_entry old.number (calls.Commit a.share.slot a.share.id name lease l) (Layer a.layer) told ++ discard)) (ap labels_in same) at_lease in
+    told_of old.number (calls.Commit a.share.slot a.share.id name lease labels) (Layer a.layer) told discard (same_entries old new _ _ at went)
+
+-- the labels that a Commit gives
+abbrev labels_of : Call → Option (List Label)
+labels_of (calls.Commit slot id name lease labels) = labels
+labels_of call = None
+
+abbrev call_in : List Entry → Call
+call_in [] = calls.Session
+call_in (e ∷ es) = e.call
+
+-- a commit gives the labels of the job's end
+pub committed_labels : (j : Job) (old new : SessionValue) (a : ActiveValue) (name : Bytes) (lease : Option Bytes) (labels given : Option (List Label)) (id : ℕ) (usage : Usage)
+    → j.end ≡ ends.Commit name lease labels
+    → Went old new (call_entry old.number (calls.Commit a.share.slot a.share.id name lease given) (Layer a.layer) (replies.Committed a.share.id usage) ∷ [])
+    → HasEnded j old new a (ended.Committed id usage) → given ≡ labels
+committed_labels j old new a name lease labels given id usage asked went (named, leased, labelled, end, is, count, mine) =
+    ap (λ (l : List Entry). labels_of (call_in l)) (same_entries old new _ _ went mine) ∙ ap labels_in (sym end ∙ asked)
 
 -- `HasRunJob`: a refused prepare is told with its refusal
 pub refused_prepare_told : (S : Type 0) (inodes : ℕ) (old new : SessionValue) (j : Job) (told : Refusal)

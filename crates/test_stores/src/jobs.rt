@@ -37,6 +37,7 @@ fn job<R: Abort>(
         Some(name) => End::Commit {
             name: text(rt, alloc, name),
             lease: None,
+            labels: None,
         },
         None => End::Discard,
     };

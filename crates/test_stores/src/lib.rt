@@ -41,6 +41,8 @@ mod stores;
 #[cfg(test)]
 mod streams;
 #[cfg(test)]
+mod subjects;
+#[cfg(test)]
 mod threads;
 #[cfg(test)]
 mod words;

@@ -65,7 +65,7 @@ func Limited(limit, granted uint64) (free, debt uint64) {
 	return minus(limit, granted), minus(granted, limit)
 }
 
-// Part is what the shard of a number has of what is divided among so many: each the same, but for one at the most.
+// Part is what the shard of a number has of what is divided among this number: each the same, but for one at the most.
 func Part(free, shards, number uint64) uint64 {
 	part := free / shards
 	if number < free%shards {

@@ -3,17 +3,19 @@ package upper
 import (
 	"context"
 	"errors"
-	"io"
 	"io/fs"
-	"os"
+	"sync"
 
 	"golang.org/x/sys/unix"
 
 	"pibroulez.example/pibroulez"
 )
 
-// How many names of a directory are read at a time.
-const namesAtOnce = 1024
+// How many bytes of a directory's names are read at a time.
+const namesBytes = 32 << 10
+
+// Room for them, which a count gives back.
+var rooms = sync.Pool{New: func() any { return new([namesBytes]byte) }}
 
 // Count is the Count of Read, without its items: a status of each entry is all that is read, and in memory are the inodes with
 // several names. Marks and paths of other mounts are no error here. The error is the context's where it ends before, or the
@@ -23,7 +25,9 @@ func Count(ctx context.Context, path string) (pibroulez.Usage, error) {
 	if err != nil {
 		return pibroulez.Usage{}, &fs.PathError{Op: "scan", Path: path, Err: err}
 	}
-	c := &counter{ctx: ctx, Usage: pibroulez.Usage{Blocks: 1, Inodes: 1}, seen: map[inode]bool{}}
+	room := rooms.Get().(*[namesBytes]byte)
+	defer rooms.Put(room)
+	c := &counter{ctx: ctx, Usage: pibroulez.Usage{Blocks: 1, Inodes: 1}, seen: map[inode]bool{}, room: room[:]}
 	if err := c.directory(root, path); err != nil {
 		return pibroulez.Usage{}, err
 	}
@@ -36,27 +40,33 @@ type counter struct {
 	pibroulez.Usage
 	// The inodes with several names.
 	seen map[inode]bool
+	room []byte
 }
 
 // Counts what is in a directory, and closes it.
 func (c *counter) directory(at int, path string) error {
-	folder := os.NewFile(uintptr(at), path)
-	defer folder.Close()
+	defer unix.Close(at)
+	var names []string
 	for {
 		if err := c.ctx.Err(); err != nil {
 			return err
 		}
-		names, err := folder.Readdirnames(namesAtOnce)
+		size, err := unix.ReadDirent(at, c.room)
+		if errors.Is(err, unix.EINTR) {
+			continue
+		}
+		if err != nil {
+			return &fs.PathError{Op: "scan", Path: path, Err: err}
+		}
+		if size == 0 {
+			return nil
+		}
+		// Copies of the names, so that what is below has the room.
+		_, _, names = unix.ParseDirent(c.room[:size], -1, names[:0])
 		for _, name := range names {
 			if err := c.entry(at, path, name); err != nil && !errors.Is(err, fs.ErrNotExist) {
 				return err
 			}
-		}
-		if errors.Is(err, io.EOF) {
-			return nil
-		}
-		if err != nil {
-			return &fs.PathError{Op: "scan", Path: path, Err: errors.Unwrap(err)}
 		}
 	}
 }

@@ -3,6 +3,7 @@
 package upper
 
 import (
+	"bytes"
 	"crypto/sha256"
 	"errors"
 	"fmt"
@@ -120,20 +121,21 @@ func (s *scanner) directory(at int, path string) error {
 	for _, name := range names {
 		isThere[name] = true
 	}
+	self := fmt.Sprintf("/proc/self/fd/%d/", at)
 	for _, name := range names {
 		told := standIn(name, isThere)
 		if told != name {
 			s.StandIns++
 		}
-		if err := s.entry(at, name, path+"/"+told); err != nil && !errors.Is(err, fs.ErrNotExist) {
+		if err := s.entry(at, self, name, path+"/"+told); err != nil && !errors.Is(err, fs.ErrNotExist) {
 			return err
 		}
 	}
 	return nil
 }
 
-// Reads what a directory has under a name.
-func (s *scanner) entry(at int, name, path string) error {
+// Reads what a directory has under a name. self is what the path of its names begins with.
+func (s *scanner) entry(at int, self, name, path string) error {
 	if len(path) > mostPathBytes {
 		return fmt.Errorf("%w: %s", ErrTooLongPath, path)
 	}
@@ -155,7 +157,7 @@ func (s *scanner) entry(at int, name, path string) error {
 		s.add(it)
 		return s.directory(below, path)
 	}
-	if err := it.read(at, name, &status); err != nil {
+	if err := it.read(at, self, name, &status); err != nil {
 		return err
 	}
 	if !utf8.ValidString(it.Text) {
@@ -217,14 +219,17 @@ func (it *Item) Count() pibroulez.Usage {
 }
 
 // Reads what is at a name that is no directory.
-func (it *Item) read(at int, name string, status *unix.Stat_t) error {
+func (it *Item) read(at int, self, name string, status *unix.Stat_t) error {
 	device := func(kind string) {
 		it.Kind, it.Text = Special, fmt.Sprintf("special:%s:%d:%d", kind, unix.Major(uint64(status.Rdev)), unix.Minor(uint64(status.Rdev)))
 	}
 	switch status.Mode & unix.S_IFMT {
 	case unix.S_IFREG:
 		it.Kind, it.Size = File, uint64(status.Size)
-		return noMark(fmt.Sprintf("/proc/self/fd/%d/%s", at, name), it.Path, "metacopy")
+		if mayHaveMark(unix.Llistxattr, self+name) {
+			return noMark(self+name, it.Path, "metacopy")
+		}
+		return nil
 	case unix.S_IFLNK:
 		target := make([]byte, mostPathBytes+1)
 		size, err := unix.Readlinkat(at, name, target)
@@ -252,6 +257,9 @@ var markPrefixes = []string{"trusted.overlay.", "user.overlay."}
 // Whether a directory hides what is below it. One that was renamed without being copied up is an error.
 func marksOf(at int, path string) (isOpaque bool, err error) {
 	self := fmt.Sprintf("/proc/self/fd/%d", at)
+	if !mayHaveMark(unix.Listxattr, self) {
+		return false, nil
+	}
 	if err := noMark(self, path, "redirect"); err != nil {
 		return false, err
 	}
@@ -261,6 +269,13 @@ func marksOf(at int, path string) (isOpaque bool, err error) {
 		isOpaque = isOpaque || err == nil && size == 1 && value[0] == 'y'
 	}
 	return isOpaque, nil
+}
+
+// Whether a path may have one of the marks, by the names of all its attributes. So most paths take one call.
+func mayHaveMark(list func(string, []byte) (int, error), path string) bool {
+	var names [256]byte
+	size, err := list(path, names[:])
+	return err != nil && !errors.Is(err, unix.ENOTSUP) || err == nil && bytes.Contains(names[:size], []byte(".overlay."))
 }
 
 func noMark(self, path, mark string) error {

@@ -31,10 +31,7 @@ const (
 // The most tenants of a store of a cluster: cluster.MostTenants.
 const mostTenantsOfCluster = 127
 
-// What the namespace of a cluster's identity begins with.
-const identityBegin = "pibroulez-store-"
-
-// A store takes at most one part in so many of what is left, beyond its need.
+// A store takes at most one part in this number of what is left, beyond its need.
 const mostShare = 1 << 20
 
 // Bounds of the door for lines. A line of the store has 2^24 bytes, with the id that the daemon gives it.
@@ -80,8 +77,12 @@ type Lines struct {
 	Refusals string
 }
 
-// Containerd is the socket of a snapshotter.
-type Containerd struct{ Socket string }
+// Containerd is the socket of a snapshotter, and the limit of each namespace of containerd that isn't among the tenants, or nil
+// where all of these share one.
+type Containerd struct {
+	Socket string
+	Each   *pibroulez.Usage
+}
 
 // ContainerdNamespace is the namespace of the store that has the snapshots of containerd.
 const ContainerdNamespace = "containerd"
@@ -258,7 +259,7 @@ func (c *Configuration) readTenants(t *table) {
 		if tenants.has(ContainerdNamespace) {
 			tenants.fault(ContainerdNamespace, "the door for containerd has this namespace: its limit is there")
 		}
-		c.Containerd, c.Tenants[ContainerdNamespace] = t.table("containerd").containerd()
+		c.Containerd, c.Tenants[ContainerdNamespace] = t.table("containerd").containerd(c.Cluster != nil)
 	}
 	if c.Cluster != nil {
 		most = mostTenantsOfCluster
@@ -336,9 +337,17 @@ func (t *table) watch() *Watch {
 	return &Watch{Address: text}
 }
 
-func (t *table) containerd() (*Containerd, Tenant) {
-	it := &Containerd{t.socket("socket", "/run/pibroulez/containerd.sock")}
+func (t *table) containerd(isOfCluster bool) (*Containerd, Tenant) {
+	it := &Containerd{Socket: t.socket("socket", "/run/pibroulez/containerd.sock")}
 	limit := pibroulez.Usage{Blocks: t.number("blocks", MostLimit, 0, MostLimit), Inodes: t.number("inodes", MostLimit, 0, MostLimit)}
+	if t.has("each") {
+		if isOfCluster {
+			t.fault("each", "in a cluster tenants are made at a start alone")
+		}
+		each := t.table("each")
+		it.Each = &pibroulez.Usage{Blocks: each.limit("blocks", false), Inodes: each.limit("inodes", false)}
+		each.end()
+	}
 	t.end()
 	return it, Tenant{Limit: limit}
 }
@@ -349,7 +358,7 @@ func (t *table) tenant(name string, isOfCluster bool) Tenant {
 	if name == "" || len(name) > mostNameBytes || strings.ContainsAny(name, "\\\x00") {
 		t.fault(name, fmt.Sprintf(`a name of 1 to %d bytes without \ and NUL is wanted, another one is there`, mostNameBytes))
 	}
-	if strings.HasPrefix(name, identityBegin) {
+	if pibroulez.IsIdentity(name) {
 		t.fault(name, "a store of a cluster has its identity under such a name: another one is wanted")
 	}
 	it := t.table(name)

@@ -138,6 +138,10 @@ func TestFaults(t *testing.T) {
 		{"root = \"/r\"\n[containerd]\nsocket = \"x\"", "p:3: containerd.socket: a path that begins with / is wanted"},
 		{"root = \"/r\"\n[containerd]\nblocks = -1", "p:3: containerd.blocks: a number from 0 to 1099511627776 is wanted"},
 		{"root = \"/r\"\n[containerd]\nusers = [1]", "p:3: containerd.users: no such key"},
+		{"root = \"/r\"\n[containerd]\neach = 1", "p:3: containerd.each: a table is wanted, another number is there"},
+		{"root = \"/r\"\n[containerd.each]\nblocks = 1", "p:2: containerd.each.inodes: a number from 0 to 1099511627776 is wanted, nothing is there"},
+		{"root = \"/r\"\n[containerd.each]\nblocks = 1\ninodes = 1\nusers = [1]", "p:5: containerd.each.users: no such key"},
+		{"root = \"/r\"\n[containerd.each]\nblocks = 1\ninodes = 1\n[cluster]\nendpoints = [\"e\"]", "p:2: containerd.each: in a cluster tenants are made at a start alone"},
 		{"root = \"/r\"\n[containerd]\n[tenants.containerd]\nblocks = 1\ninodes = 1", "p:3: tenants.containerd: the door for containerd has this namespace"},
 		{"root = \"/r\"\n[tenants.a]\nblocks = 1\ninodes = 1\ncontainerd = true", "p:2: tenants.a: its snapshots are containerd's, and there is no door"},
 		{"root = \"/r\"\n[containerd]\n[tenants.a]\nblocks = 1\ninodes = 1\ncontainerd = true\nusers = [1]", "p:3: tenants.a: its snapshots are containerd's, so it has no users"},
@@ -337,7 +341,7 @@ func TestContainerd(t *testing.T) {
 		return c
 	}
 	old := read("[containerd]")
-	equal(t, *old.Containerd, Containerd{"/run/pibroulez/containerd.sock"})
+	equal(t, *old.Containerd, Containerd{Socket: "/run/pibroulez/containerd.sock"})
 	equal(t, old.Tenants, map[string]Tenant{"containerd": {Limit: pibroulez.Usage{Blocks: 1 << 40, Inodes: 1 << 40}}})
 	next, refused := old.Next("p", read("[containerd]\nblocks = 5"))
 	equal(t, len(refused), 0)
@@ -407,5 +411,34 @@ func TestKeysOfReadme(t *testing.T) {
 	}
 	if keys < 30 {
 		t.Errorf("only %d keys", keys)
+	}
+}
+
+// Where each namespace of containerd is a tenant, those of the file come and go while the daemon runs, and the limit of each
+// other one changes. Whether there is one doesn't.
+func TestNextWithEach(t *testing.T) {
+	read := func(rest string) *Configuration {
+		t.Helper()
+		c, err := parse("p", []byte("root = \"/r\"\n[containerd]\n"+rest))
+		granted(t, err)
+		return c
+	}
+	const each, named = "[containerd.each]\nblocks = 1\ninodes = 2\n", "[tenants.a]\nblocks = 3\ninodes = 4\ncontainerd = true\n"
+	old := read(each)
+	equal(t, *old.Containerd.Each, pibroulez.Usage{Blocks: 1, Inodes: 2})
+	next, refused := old.Next("p", read("[containerd.each]\nblocks = 5\ninodes = 6\n"+named))
+	equal(t, len(refused), 0)
+	equal(t, *next.Containerd.Each, pibroulez.Usage{Blocks: 5, Inodes: 6})
+	equal(t, next.Tenants["a"].IsContainerds, true)
+	last, refused := next.Next("p", read(each))
+	equal(t, len(refused), 0)
+	equal(t, len(last.Tenants), 1)
+	for _, it := range []struct{ old, read, want string }{
+		{each, "", "p: containerd.each: it can't change while the daemon runs: a tenant for each namespace stays"},
+		{"", each, "p: containerd.each: it can't change while the daemon runs: one namespace for all others stays"},
+	} {
+		next, refused := read(it.old).Next("p", read(it.read))
+		equal(t, refused.Error(), it.want)
+		equal(t, next.Containerd.Each != nil, it.old != "")
 	}
 }

@@ -6,12 +6,17 @@ import (
 )
 
 // Next is what a running daemon goes on with where its file is read again: the roles and, but in a cluster, the tenants with
-// their limits are those of the file, and all else stays as it is. Tenants of containerd stay too: the door has them from its
-// beginning. Each key of the file that says something else is among the faults, which refuse it.
+// their limits are those of the file, and all else stays as it is. Tenants of containerd stay too, since the door has them from
+// its beginning, but where each of its namespaces is one. Each key of the file that says something else is among the faults,
+// which refuse it.
 func (c *Configuration) Next(path string, read *Configuration) (*Configuration, Faults) {
 	var refused Faults
 	refuse := func(key, words string) { refused = append(refused, &Fault{Path: path, Key: key, Words: words}) }
 	next := *c
+	isEach := c.Containerd != nil && c.Containerd.Each != nil
+	if isEach && read.Containerd != nil && read.Containerd.Each != nil {
+		next.Containerd = &Containerd{c.Containerd.Socket, read.Containerd.Each}
+	}
 	next.Operators, next.Quotas, next.Tenants = read.Operators, read.Quotas, map[string]Tenant{}
 	now := read.fixed()
 	for key, old := range c.fixed() {
@@ -31,7 +36,7 @@ func (c *Configuration) Next(path string, read *Configuration) (*Configuration, 
 		case c.Cluster != nil:
 			refuse("tenants."+told(name), "in a cluster a tenant stays as long as its store: it has no members")
 			now = Tenant{Limit: tenant.Limit}
-		case tenant.IsContainerds:
+		case tenant.IsContainerds && !isEach:
 			refuse("tenants."+told(name), "a tenant of containerd stays while the daemon runs: it keeps its limit")
 			now = tenant
 		default:
@@ -56,7 +61,7 @@ func (c *Configuration) Next(path string, read *Configuration) (*Configuration, 
 			// The door is refused by its own key.
 		case c.Cluster != nil:
 			refuse("tenants."+told(name), "in a cluster a tenant is made at a start")
-		case tenant.IsContainerds:
+		case tenant.IsContainerds && !isEach:
 			refuse("tenants."+told(name), "a tenant of containerd is made at a start")
 		default:
 			next.Tenants[name] = tenant
@@ -87,6 +92,7 @@ func (c *Configuration) fixed() map[string]any {
 	}
 	if c.Containerd != nil {
 		all["containerd.socket"] = c.Containerd.Socket
+		all["containerd.each"] = each(c.Containerd.Each != nil)
 	}
 	if c.Lines == nil {
 		return all
@@ -108,6 +114,16 @@ func (d door) String() string {
 		return "the door"
 	}
 	return "no door"
+}
+
+// Whether each namespace of containerd is a tenant.
+type each bool
+
+func (e each) String() string {
+	if e {
+		return "a tenant for each namespace"
+	}
+	return "one namespace for all others"
 }
 
 // All that is said of a cluster.

@@ -104,9 +104,9 @@ func TestCharges(t *testing.T) {
 	// What is no command, of no namespace or of a sealed snapshot is answered as ever.
 	for line, want := range map[string]string{
 		`{"do":"mkdir","ns":"a","key":"put","path":5}`:            `{"fault":"bad field path: a path is wanted, a number is there","line":`,
-		`{"do":"mkdir","ns":"none","key":"put","path":"/x"}`:      `{"error":"NoNamespace","from":"book"}`,
-		`{"do":"mkdir","ns":"a","key":"none","path":"/x"}`:        `{"error":"NotFound","from":"book"}`,
-		`{"do":"write","ns":"a","key":"put","path":"","text":""}`: `{"error":"BadPath","from":"file"}`,
+		`{"do":"mkdir","ns":"none","key":"put","path":"/x"}`:      `{"error":"NoNamespace","from":"book","of":"ns"}`,
+		`{"do":"mkdir","ns":"a","key":"none","path":"/x"}`:        `{"error":"NotFound","from":"book","of":"key"}`,
+		`{"do":"write","ns":"a","key":"put","path":"","text":""}`: `{"error":"BadPath","from":"file","of":"path"}`,
 	} {
 		if answer := k.ask(line); !strings.HasPrefix(answer, want) {
 			t.Errorf("%s: %s, not %s", line, answer, want)

@@ -181,7 +181,7 @@ func TestFullDisk(t *testing.T) {
 	}
 	k := h.talk(t)
 	equal(t, k.ask(`{"do":"mkdir","ns":"a","key":"k","path":"/`+strings.Repeat("d", 250)+`","id":1}`), `{"answer":{"error":"NoSpace","from":"door"},"id":1}`)
-	equal(t, k.ask(`{"do":"quota","ns":"x"}`), `{"error":"NoNamespace","from":"book"}`)
+	equal(t, k.ask(`{"do":"quota","ns":"x"}`), `{"error":"NoNamespace","from":"book","of":"ns"}`)
 	_, err = store.Discard(ctx, "a", "k")
 	granted(t, err)
 	granted(t, os.Remove(filepath.Join(disk, "rest")))

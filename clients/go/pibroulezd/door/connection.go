@@ -138,7 +138,7 @@ func (c *connection) carryOut(text []byte) bool {
 
 // Whether the peer may make a call now.
 func (c *connection) isAllowed(it command) bool {
-	return c.door.config.Rights(c.peer).allow(it.Line) && (c.door.config.Charge == nil || !isNobodysInCluster[it.Do])
+	return c.door.config.Rights(c.peer).allow(it.Line) && (c.door.config.Charge == nil || !isNobodysInCluster[it.Do]) && !makesIdentity(it.Line)
 }
 
 func (c *connection) refuse(it command, name pibroulez.Reason) bool {

@@ -318,7 +318,7 @@ func TestConnectionsApart(t *testing.T) {
 				fmt.Fprintf(&text, `{"do":"mkdir","ns":"a","key":%q,"path":"/d","id":%d}`+"\n", key, round)
 				fmt.Fprintf(&text, `{"do":"discard","ns":"a","key":%q}`+"\n", key)
 				fmt.Fprintf(&want, `{"answer":{"chain":[],"id":N,"slot":N},"id":%d}`+"\n", round)
-				fmt.Fprintf(&want, `{"answer":{"error":"NotFound","from":"book"},"id":"s"}`+"\n")
+				fmt.Fprintf(&want, `{"answer":{"error":"NotFound","from":"book","of":"key"},"id":"s"}`+"\n")
 				fmt.Fprintf(&want, `{"fault":"not JSON","line":%d}`+"\n", 5*round+3)
 				fmt.Fprintf(&want, `{"answer":{"count":[2,2],"share":[2,2]},"id":%d}`+"\n"+`{"freed":[2,2]}`+"\n", round)
 			}
@@ -358,7 +358,7 @@ func TestTooLong(t *testing.T) {
 	k := h.talk(t)
 	report := `{"do":"quota","ns":"x"}`
 	k.send(report + strings.Repeat(" ", 1000-len(report)) + "\n")
-	equal(t, k.answer(), `{"error":"NoNamespace","from":"book"}`)
+	equal(t, k.answer(), `{"error":"NoNamespace","from":"book","of":"ns"}`)
 	k.send(report + strings.Repeat(" ", 1001-len(report)) + "\n")
 	equal(t, k.answer(), `{"fault":"too long","line":2}`)
 	go func() {
@@ -368,7 +368,7 @@ func TestTooLong(t *testing.T) {
 		io.WriteString(k, "\n"+report+"\n")
 	}()
 	equal(t, k.answer(), `{"fault":"too long","line":3}`)
-	equal(t, k.answer(), `{"error":"NoNamespace","from":"book"}`)
+	equal(t, k.answer(), `{"error":"NoNamespace","from":"book","of":"ns"}`)
 	k.send(strings.Repeat("x", 1001))
 	equal(t, k.rest(), []string{`{"fault":"too long","line":5}`})
 }
@@ -378,7 +378,7 @@ func TestLateLine(t *testing.T) {
 	h := newHouse(t, func(c *Config) { c.Patience = 200 * time.Millisecond })
 	idle, half, endless := h.talk(t), h.talk(t), h.talk(t)
 	half.send(`{"do":"quota","ns":"x"}` + "\n" + `{"do":"quota"`)
-	equal(t, half.answer(), `{"error":"NoNamespace","from":"book"}`)
+	equal(t, half.answer(), `{"error":"NoNamespace","from":"book","of":"ns"}`)
 	go func() {
 		for {
 			if _, err := io.WriteString(endless, strings.Repeat("x", 1<<16)); err != nil {
@@ -390,7 +390,7 @@ func TestLateLine(t *testing.T) {
 	half.isEnded()
 	equal(t, endless.answer(), `{"error":"LateLine","from":"door"}`)
 	endless.isEnded()
-	equal(t, idle.ask(`{"do":"quota","ns":"x"}`), `{"error":"NoNamespace","from":"book"}`)
+	equal(t, idle.ask(`{"do":"quota","ns":"x"}`), `{"error":"NoNamespace","from":"book","of":"ns"}`)
 	equal(t, h.Counts().Refusals[pibroulez.ErrLateLine], uint64(2))
 }
 
@@ -427,14 +427,14 @@ func TestPeersThatNeverRead(t *testing.T) {
 	// Another one is answered meanwhile.
 	for round := 0; round < 30; round++ {
 		equal(t, k.ask(`{"do":"charge","ns":"a","key":"k","need":[1,1],"id":1}`), `{"answer":{"share":[301,301]},"id":1}`)
-		equal(t, k.ask(`{"do":"quota","ns":"x"}`), `{"error":"NoNamespace","from":"book"}`)
+		equal(t, k.ask(`{"do":"quota","ns":"x"}`), `{"error":"NoNamespace","from":"book","of":"ns"}`)
 	}
 	// The floods end since the door ends their connections.
 	flooding.Wait()
 	for _, it := range peers {
 		it.Close()
 	}
-	equal(t, k.ask(`{"do":"quota","ns":"x"}`), `{"error":"NoNamespace","from":"book"}`)
+	equal(t, k.ask(`{"do":"quota","ns":"x"}`), `{"error":"NoNamespace","from":"book","of":"ns"}`)
 }
 
 // Peers that flood the door as fast as they read hold nobody up: with lines that are no command, too long, refused, questions, or
@@ -467,13 +467,13 @@ func TestFloods(t *testing.T) {
 	}
 	for round := 0; round < 10; round++ {
 		equal(t, k.ask(`{"do":"charge","ns":"a","key":"k","need":[3,3],"id":1}`), `{"answer":{"share":[3,3]},"id":1}`)
-		equal(t, k.ask(`{"do":"quota","ns":"x"}`), `{"error":"NoNamespace","from":"book"}`)
+		equal(t, k.ask(`{"do":"quota","ns":"x"}`), `{"error":"NoNamespace","from":"book","of":"ns"}`)
 	}
 	for _, it := range peers {
 		it.Close()
 	}
 	flooding.Wait()
-	equal(t, k.ask(`{"do":"quota","ns":"x"}`), `{"error":"NoNamespace","from":"book"}`)
+	equal(t, k.ask(`{"do":"quota","ns":"x"}`), `{"error":"NoNamespace","from":"book","of":"ns"}`)
 }
 
 // A user may have so many connections, and another one that is more is told so and ended.

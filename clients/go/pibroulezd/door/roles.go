@@ -45,6 +45,12 @@ var isTenants = setOf(
 // Commands that nobody makes in a cluster, since its agent has the tenants of the file and sets their limits.
 var isNobodysInCluster = setOf("limit", "namespace_create", "namespace_remove")
 
+// Whether a line makes a namespace that is named as the identity of a store of a cluster. A store with one isn't served without.
+func makesIdentity(line pibroulez.Line) bool {
+	var namespace string
+	return line.Do == "namespace_create" && json.Unmarshal(line.Members["ns"], &namespace) == nil && pibroulez.IsIdentity(namespace)
+}
+
 // Commands whose answers have at most some hundred bytes, but for the ids of the ancestors.
 var isShort = setOf(
 	"session", "reopen", "roll", "prepare", "view", "remove", "usage", "charge", "trim", "commit", "discard",

@@ -146,6 +146,21 @@ func TestRoles(t *testing.T) {
 	equal(t, h.Counts().Refusals[pibroulez.ErrNotAllowed], uint64(refused))
 }
 
+// Nobody makes a namespace that is named as the identity of a store of a cluster, whatever form the line has.
+func TestNobodyMakesIdentities(t *testing.T) {
+	h := newHouse(t, nil)
+	k := h.talk(t)
+	for _, name := range []string{`pibroulez-store-`, `pibroulez-store-x`, `\u0070ibroulez-store-x`} {
+		equal(t, k.ask(`{"do":"namespace_create","ns":"`+name+`","blocks":0,"inodes":0}`), `{"error":"NotAllowed","from":"door"}`)
+		equal(t, k.ask(`{"do":"namespace_create","ns":"fine","blocks":0,"inodes":0,"ns":"`+name+`"}`), `{"error":"NotAllowed","from":"door"}`)
+	}
+	equal(t, k.ask(`{"do":"namespace_create","ns":"pibroulez-store","blocks":0,"inodes":0}`), `{"ok":true}`)
+	equal(t, k.ask(`{"do":"namespace_remove","ns":"pibroulez-store-x"}`), `{"error":"NoNamespace","from":"book"}`)
+	if !strings.Contains(h.refused.String(), `"do":"namespace_create","ns":"pibroulez-store-x"`) {
+		t.Error(h.refused.String())
+	}
+}
+
 // Each command that the door knows is in the table.
 func TestAllCommandsHaveRoles(t *testing.T) {
 	isThere := map[string]bool{}

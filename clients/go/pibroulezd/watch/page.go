@@ -186,7 +186,7 @@ func inOrder(nodes []pibroulez.Node) []node {
 	return all
 }
 
-// The last entries of a round with so many, the last one first.
+// The last entries of a round with this number, the last one first.
 func (w *Watch) lastEntries(ctx context.Context, entries uint64) ([]pibroulez.Entry, error) {
 	first, err := w.config.Store.Journal(ctx, "", 0, 1)
 	if err != nil || len(first) == 0 {

@@ -105,7 +105,7 @@ var headers = map[string]string{
 	"Cache-Control":           "no-store",
 }
 
-// Answers what only asks, by a name of this machine, so many at one time.
+// Answers what only asks, by a name of this machine, at most this number at one time.
 func (w *Watch) guarded(pages http.Handler) http.Handler {
 	return http.HandlerFunc(func(answer http.ResponseWriter, request *http.Request) {
 		for name, value := range headers {

@@ -9,7 +9,7 @@ MOST_BYTES = 1 << 23
 
 
 def grouped(operations: Iterable[str], most: int = MOST_OPERATIONS, most_bytes: int = MOST_BYTES) -> Iterator[List[str]]:
-    """The operations in order, each the text of its object, in groups of at most so many, and of at most so many bytes
+    """The operations in order, each the text of its object, in groups of at most a number, and of at most a number of bytes
     but for an operation that has more alone."""
     group: List[str] = []
     left = most_bytes

@@ -9,6 +9,6 @@ returns-in-Ok-clause-stopped g c =
     let read = c.in-Some.read in
     let told = c.in-Ok.told in
     let text = c.as_str.result.now in
-    let of = subst (λ (t : List ℕ). IsTextOf c.args.options read.round read.jobs read.names told.lacking t) (sym c.as_str.ensures.value) c.in-Ok.ensures.text in
+    let of = subst (λ (t : List ℕ). IsTextOf c.args.options read told.lacking t) (sym c.as_str.ensures.value) c.in-Ok.ensures.text in
     let is = subst (λ (r : Option ReadValue). IsText c.args.options r told.lacking text) (sym c.in-Some.is) of in
     text_broken c.args.options c.args.read told.lacking text c.in-Err-write_text.stop (g.W.Write.contents c.args.output.now) (g.W.Write.contents c.write_text.new.output) is c.in-Err-write_text.ensures.part

@@ -4,6 +4,6 @@ use Rattle.snap_session.proofs.batch.operate_all.Given as goal
 
 abbrev pub invariant-loop-place : goal.invariant-loop-place
 invariant-loop-place g l = record {
-  done : all_operated l.n l.slot l.id l.place (drop l.place l.ops) l.world ≡ all_operated l.n l.slot l.id 0 l.ops l.fn.world;
+  done : all_operated l.n l.namespace l.key l.slot l.id l.place (drop l.place l.ops) l.world ≡ all_operated l.n l.namespace l.key l.slot l.id 0 l.ops l.fn.world;
   opening : l.world.opening ≡ l.fn.world.opening;
 }
