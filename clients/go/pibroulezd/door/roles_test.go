@@ -155,7 +155,7 @@ func TestNobodyMakesIdentities(t *testing.T) {
 		equal(t, k.ask(`{"do":"namespace_create","ns":"fine","blocks":0,"inodes":0,"ns":"`+name+`"}`), `{"error":"NotAllowed","from":"door"}`)
 	}
 	equal(t, k.ask(`{"do":"namespace_create","ns":"pibroulez-store","blocks":0,"inodes":0}`), `{"ok":true}`)
-	equal(t, k.ask(`{"do":"namespace_remove","ns":"pibroulez-store-x"}`), `{"error":"NoNamespace","from":"book"}`)
+	equal(t, k.ask(`{"do":"namespace_remove","ns":"pibroulez-store-x"}`), `{"error":"NoNamespace","from":"book","of":"ns"}`)
 	if !strings.Contains(h.refused.String(), `"do":"namespace_create","ns":"pibroulez-store-x"`) {
 		t.Error(h.refused.String())
 	}
