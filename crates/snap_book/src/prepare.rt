@@ -146,7 +146,7 @@ impl<N: StoreName> Book<N> {
         labels: &Labels,
     ) -> Result<Active<N>, Refusal>
         ensures granted { IfOk result (λ a. Recorded self.old self.new session (calls.Prepare namespace.now key.now parent.now labels.now) Nothing (Prepared a.share.id a.share.slot (ids_of (ancestors a.namespace parent.now self.old.state.records)))) }
-        // Its namespace has the place that its text has in the configuration.
+        // Its namespace has the place that the store has it at.
         ensures namespace { IfOk result (λ a. place_of namespace.now self.old.state.namespaces ≡ Some a.namespace) }
         ensures key { IfOk result (λ a. a.key ≡ key.now) }
         ensures lowers { IfOk result (λ a. a.lowers ≡ layers_of (ancestors a.namespace parent.now self.old.state.records)) }

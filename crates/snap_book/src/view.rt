@@ -83,7 +83,7 @@ impl<N: StoreName> Book<N> {
         parent: &str,
         labels: &Labels,
     ) -> Result<Viewed, Refusal>
-        // Its namespace has a place in the configuration.
+        // Its namespace has a place in the store.
         ensures granted { IfOk result (λ v. IsSomeAnd (place_of namespace.now self.old.state.namespaces) (λ place. Recorded self.old self.new session (calls.View namespace.now key.now parent.now labels.now) Nothing (replies.Viewed v.id (ids_of (ancestors place parent.now self.old.state.records))))) }
         ensures lowers { IfOk result (λ v. IsSomeAnd (place_of namespace.now self.old.state.namespaces) (λ place. v.lowers ≡ shown_layers place parent.now self.old.state.records)) }
         ensures refused { IfErr result (λ why. RefusedBy self.old self.new session (calls.View namespace.now key.now parent.now labels.now) Nothing why) }

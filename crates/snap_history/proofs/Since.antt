@@ -1,12 +1,14 @@
 -- The entries since the namespace of a name was last made.
 use Rattle.std.proofs.Common.{◌≡◌, ℕ, zero, suc, ◌+◌, ◌<◌, List, [], ◌∷◌, drop, length, Bool, true, false, true≢false, cond, Option, Some, None, refl, sym, ap, ◌∙◌, subst, arith}
 use Rattle.std.proofs.lemmas.Bool.{false_from_ne_true}
+use Rattle.std.proofs.lemmas.List.{length-append, length-map}
 use Rattle.std.proofs.lemmas.Slice.Eq.{bytes_eq-Decides}
-use Rattle.std.specs.Option.{is_some, option_map_or}
+use Rattle.std.specs.Option.{is_some, option_map, option_map_or}
 use Rattle.std.specs.Prelude.{◌||◌, bytes_eq, count_by, if◌then◌else◌, nat_lt}
 use Rattle.snap_usage.specs.declared.usage.Usage.{Usage}
 use Rattle.snap_lease.specs.Leases.{has_leases}
 use Rattle.snap_record.specs.Labels.{Bytes}
+use Rattle.snap_record.specs.declared.record.Record.{Record}
 use Rattle.snap_call.specs.declared.call.Call.{Call}
 use Rattle.snap_call.specs.declared.call.Call.TheVariants as calls
 use Rattle.snap_call.specs.declared.call.Given.{Given}
@@ -19,7 +21,7 @@ use Rattle.snap_call.specs.declared.state.State.{State}
 use Rattle.snap_call.specs.Forms.{is_namespace}
 use Rattle.snap_call.specs.Good.{Good}
 use Rattle.snap_call.specs.Journal.{Replays}
-use Rattle.snap_call.specs.Records.{has_records}
+use Rattle.snap_call.specs.Records.{active_at, has_records}
 use Rattle.snap_call.specs.State.{is_taken, most_namespaces, name_at, place_of, with_namespace, without_namespace}
 use Rattle.snap_call.specs.Step.{step, IsAllowed, refused, spacing}
 use Rattle.snap_call.specs.Steps.{namespace_create, namespace_remove}
@@ -32,7 +34,7 @@ use Rattle.snap_call.proofs.Parts.{namespace_remove_at}
 use Rattle.snap_call.proofs.Spacing.{namespace_parts}
 use Rattle.snap_history.specs.Changes.{no_shares}
 use Rattle.snap_history.specs.History.{history, history_since, last_made, makes_by}
-use Rattle.snap_history.specs.Open.{namespace_shares}
+use Rattle.snap_history.specs.Open.{namespace_shares, open_below, open_share, share_for, shares_of}
 use Rattle.snap_history.specs.declared.info.EntryInfo.{EntryInfo}
 use Rattle.snap_history.proofs.Names.{step-names}
 
@@ -215,9 +217,23 @@ step_stands name place s (calls.NamespaceRemove namespace) given good allowed ot
 step_stands name place s call given good allowed other stands = sym (step-names s call given tt allowed name) ∙ stands
 
 -- a namespace that none of the entries makes has had its place before them
-pub stood : (name : Bytes) (place : ℕ) (s : State) (es : List Entry) (t : State) → Good s → Replays s es t → last_made name es ≡ None → place_of name t.namespaces ≡ Some place → place_of name s.namespaces ≡ Some place
+stood : (name : Bytes) (place : ℕ) (s : State) (es : List Entry) (t : State) → Good s → Replays s es t → last_made name es ≡ None → place_of name t.namespaces ≡ Some place → place_of name s.namespaces ≡ Some place
 stood name place s [] t good replays none stands = ap (λ (u : State). place_of name u.namespaces) (sym replays) ∙ stands
 stood name place s (e ∷ es) t good replays none stands =
     let parts = none_after name e es none in
     step_stands name place s e.call e.given good replays.0 (ap (makes_by name e.call) (sym replays.1) ∙ parts.1)
     (stood name place (step s e.call e.given).0 es t (good_step s e.call e.given good replays.0) replays.2 parts.0 stands)
+
+-- ---- what the open snapshots of a namespace are charged
+
+-- it has a place for each slot
+below-length : (n : ℕ) (rs : List Record) → length (open_below n rs) ≡ n
+below-length zero rs = refl
+below-length (suc n) rs = (let one = length-append (open_below n rs) (option_map open_share (active_at n rs) ∷ []) in let before = below-length n rs in let h : length (open_below (suc n) rs) ≡ suc n = omega arith in h)
+
+pub shares_of-length : (slots place : ℕ) (rs : List Record) → length (shares_of slots place rs) ≡ slots
+shares_of-length slots place rs = length-map (open_below slots rs) (share_for place) ∙ below-length slots rs
+
+-- and is told by its name where no entry makes it
+pub stood_shares : (name : Bytes) (place : ℕ) (s : State) (es : List Entry) (t : State) → Good s → Replays s es t → place_of name t.namespaces ≡ Some place → last_made name es ≡ None → shares_of s.slots place s.records ≡ namespace_shares name s
+stood_shares name place s es t good replays stands none = rw (stood name place s es t good replays none stands) refl

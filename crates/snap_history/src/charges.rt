@@ -104,9 +104,30 @@ fn told(
 fn makes(name: &str, entry: &Entry) -> bool
     ensures { result ≡ makes_by name.now entry.now.call entry.now.reply }
 {
-    match (&entry.call, &entry.reply) {
-        (Call::NamespaceCreate { namespace, .. }, Reply::Done) => namespace.as_str() == name,
-        _ => false,
+    match &entry.call {
+        Call::NamespaceCreate { namespace, .. } => {
+            matches!(&entry.reply, Reply::Done) && namespace.as_str() == name
+        }
+        Call::Session
+        | Call::Prepare { .. }
+        | Call::Charge { .. }
+        | Call::Trim { .. }
+        | Call::Commit { .. }
+        | Call::Discard { .. }
+        | Call::Stat { .. }
+        | Call::Usage { .. }
+        | Call::Mounts { .. }
+        | Call::View { .. }
+        | Call::Remove { .. }
+        | Call::Update { .. }
+        | Call::Walk { .. }
+        | Call::NamespaceRemove { .. }
+        | Call::SetLimit { .. }
+        | Call::LeaseCreate { .. }
+        | Call::LeaseAdd { .. }
+        | Call::LeaseDrop { .. }
+        | Call::LeaseRelease { .. }
+        | Call::Sweep { .. } => false,
     }
 }
 

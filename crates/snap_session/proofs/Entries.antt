@@ -1,25 +1,23 @@
 -- The round's entries of a world.
-use Rattle.std.proofs.Common.{◌≡◌, ℕ, zero, suc, ◌≤◌, List, [], ◌∷◌, length, map, Bool, false, Option, None, Some, refl, sym, ap, ◌∙◌, arith}
+use Rattle.std.proofs.Common.{◌≡◌, ℕ, ◌≤◌, List, length, map, Bool, false, Option, None, Some, refl, sym, ap, ◌∙◌, arith}
 use Rattle.std.specs.Option.{option_map, option_map_or}
-use Rattle.std.proofs.lemmas.List.{length-append, length-map}
 use Rattle.snap_usage.specs.declared.usage.Usage.{Usage}
 use Rattle.snap_usage.specs.Counted.{no_usage}
 use Rattle.snap_record.specs.Labels.{Bytes}
 use Rattle.snap_record.specs.declared.record.Record.{Record}
-use Rattle.snap_call.specs.declared.entry.Entry.{Entry}
 use Rattle.snap_call.specs.declared.refusal.Refusal.TheVariants.{NoNamespace}
 use Rattle.snap_call.specs.declared.state.State.{State}
 use Rattle.snap_call.specs.Good.{Good}
 use Rattle.snap_call.specs.Journal.{Replays}
-use Rattle.snap_call.specs.Records.{active_at, charge_of}
+use Rattle.snap_call.specs.Records.{charge_of}
 use Rattle.snap_call.specs.State.{place_of}
 use Rattle.snap_call.proofs.Lists.{none_some, some_same}
 use Rattle.snap_call.proofs.Replaying.{Replays-entries}
 use Rattle.snap_book.specs.Book.{IsBeginning}
 use Rattle.snap_history.specs.History.{history_page, history_since, last_made, namespace_charge}
-use Rattle.snap_history.specs.Open.{namespace_shares, open_below, open_share, share_for, shares_of}
+use Rattle.snap_history.specs.Open.{namespace_shares, shares_of}
 use Rattle.snap_history.specs.declared.info.EntryInfo.{EntryInfo}
-use Rattle.snap_history.proofs.Since.{stood}
+use Rattle.snap_history.proofs.Since.{shares_of-length, stood_shares}
 use Rattle.snap_world.specs.World.{WorldValue}
 use Rattle.snap_script.specs.declared.answer.JournalEntry.{JournalEntry}
 use Rattle.snap_script.specs.declared.answer.Answer.{Answer}
@@ -31,18 +29,6 @@ use Rattle.snap_session.specs.Journal.{journal_entry, journal_in}
 -- there are no more than the number of the last one
 pub few : (w : WorldValue) → Replays w.opening w.journal w.state → length w.journal ≤ w.state.entries
 few w replays = let count = Replays-entries w.opening w.journal w.state replays in omega arith
-
--- what the open snapshots of a namespace are charged has a place for each slot
-below-length : (n : ℕ) (rs : List Record) → length (open_below n rs) ≡ n
-below-length zero rs = refl
-below-length (suc n) rs = (let one = length-append (open_below n rs) (option_map open_share (active_at n rs) ∷ []) in let before = below-length n rs in let h : length (open_below (suc n) rs) ≡ suc n = omega arith in h)
-
-shares_of-length : (slots place : ℕ) (rs : List Record) → length (shares_of slots place rs) ≡ slots
-shares_of-length slots place rs = length-map (open_below slots rs) (share_for place) ∙ below-length slots rs
-
--- and is told by its name where no entry makes it
-stood_shares : (name : Bytes) (place : ℕ) (s : State) (es : List Entry) (t : State) → Good s → Replays s es t → place_of name t.namespaces ≡ Some place → last_made name es ≡ None → shares_of s.slots place s.records ≡ namespace_shares name s
-stood_shares name place s es t good replays stands none = rw (stood name place s es t good replays none stands) refl
 
 -- the place of a namespace that is charged so much
 charged_place : (rs : List Record) (o : Option ℕ) (u : Usage) → option_map (λ place. charge_of place rs) o ≡ Some u → (place : ℕ) × (o ≡ Some place) × (charge_of place rs ≡ u)
