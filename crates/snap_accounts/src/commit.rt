@@ -33,6 +33,13 @@ fn are_formed(name: &str, lease: &Option<Text>, labels: &Option<Labels>) -> bool
 }
 
 impl<N: StoreName> Accounts<N> {
+    // The id of the next snapshot.
+    fn next_id(&self) -> u64
+        ensures { result ≡ self.now.next_id }
+    {
+        self.state.next_id
+    }
+
     /// Why the snapshot of an open slot can't be committed under the name, if it can't. In this order:
     /// `BadArgument` for a name, a lease or labels that are malformed; `AlreadyExists` where its namespace
     /// has the name; `NoLease` where it has not the lease. Takes no memory. The cost grows with the labels
@@ -109,7 +116,8 @@ impl<N: StoreName> Accounts<N> {
         let after = self.total_with(place, held, usage);
         let number = self.state.entries + 1;
         // There are fewer records than the next id, so there is room for one more.
-        prove!((self.state.records.len() as u64) < self.state.next_id);
+        let next = self.next_id();
+        prove!((self.state.records.len() as u64) < next);
         if let Err(refused) = self.state.commit(slot, name, lease, labels, layer) {
             return Err((refused.into(), share));
         }

@@ -1,4 +1,4 @@
-use Rattle.std.proofs.Common.{◌≡◌, ◌+◌, ◌-◌, set, Some, IsSome, is_some, false, refl, sym, ap, ◌∙◌, subst, arith}
+use Rattle.std.proofs.Common.{rules, ◌≡◌, ◌+◌, ◌-◌, set, Some, IsSome, is_some, false, refl, sym, ap, ◌∙◌, subst, arith}
 use Rattle.snap_usage.specs.declared.usage.Usage.{Usage}
 use Rattle.snap_usage.specs.Counted.{Covers, count_of}
 use Rattle.snap_layer.specs.Tree.{Tree}
@@ -89,5 +89,17 @@ commit-requires-clause-open g c =
     let found = charge_at-issued slot s.records (ap (λ (u : State). (charge_at slot u.records).issued) same ∙ c.requires.met.0) in
     subst (λ k. IsSome (active_at k s.records)) (sym c.slot-slot.ensures) (ap is_some found.1)
 
+pub prove-unreachable-requires : goal.prove-unreachable-requires
+prove-unreachable-requires g c = omega (arith, c.self.invariant.good.fewer, c.next_id-next.ensures, c.len.ensures, ap (λ (u : State). u.next_id) c.self.view_is)
+
 pub commit-requires-clause-few : goal.commit-requires-clause-few
-commit-requires-clause-few g c = omega (arith, c.self.invariant.good.fewer, c.next_id.ensures, ap (λ (u : State). u.next_id) c.self.view_is)
+commit-requires-clause-few g c = omega (arith, c.self.invariant.good.fewer, c.next_id-next.ensures, ap (λ (u : State). u.next_id) c.self.view_is)
+
+pub returns-clause-step : goal.returns-clause-step
+returns-clause-step g c =
+    let s = c.self.inside.state in
+    let slot = c.args.share.slot in
+    let same = c.self.view_is in
+    let found = charge_at-issued slot s.records (ap (λ (u : State). (charge_at slot u.records).issued) same ∙ c.requires.met.0) in
+    let done = committed_from c.slot-slot.result slot c.args.name.now c.args.lease.now c.args.labels.now c.args.layer.now s c.commit.new.self found.0 c.slot-slot.ensures found.1 c.in_default.ensures.ok in
+    search rules
