@@ -10,6 +10,7 @@ import uuid
 from datetime import datetime, timezone
 from pathlib import Path
 from typing import Any, Dict, Iterable, List
+from urllib.parse import quote
 
 import parts
 from parts import GO, GO_LIBRARIES, GO_MODULE, GO_PROGRAMS, TOP
@@ -54,6 +55,22 @@ def debian_packages(folders: Iterable[str]) -> Dict[str, str]:
     return dict(line.split() for line in told.splitlines())
 
 
+def notices() -> bytes:
+    """The terms of all that is in the programs in Go beside our own, as Debian's packages tell them."""
+    source = Path(parts.run(["go", "env", "GOROOT"]).strip(), "src/fmt").resolve()
+    folders = {it for place in GO_PROGRAMS.values() for it in go_folders(f"{GO_MODULE}/{place}")} | {str(source)}
+    told = []
+    for name, number in sorted(debian_packages(sorted(folders)).items()):
+        terms = Path("/usr/share/doc", name, "copyright").read_text(encoding="utf-8").strip()
+        told.append(f"{'=' * 80}\n{name} {number}\n{'=' * 80}\n\n{terms}\n")
+    return ("What is in pibroulezd and pibroulez beside Pibroulez, and its terms.\n\n" + "\n".join(told)).encode()
+
+
+def of_debian(name: str, number: str, **more: Any) -> Dict[str, Any]:
+    """A component that a package of Debian has, with its address (purl)."""
+    return library(name, number, purl=f"pkg:deb/debian/{name}@{quote(number, safe=':')}", **more)
+
+
 def library(name: str, version: str, **more: Any) -> Dict[str, Any]:
     """A component that is a library."""
     return {"type": "library", "name": name, "version": version, "bom-ref": f"{name}@{version}", **more}
@@ -70,7 +87,7 @@ def below(table: Dict[str, List[str]], crate: str) -> List[str]:
 def of_crates(version: str, kit: str) -> Dict[str, Dict[str, Any]]:
     """The components of the proved code, by their names: its crates, and the kit's libraries."""
     table = crates()
-    theirs = sorted({it for below in table.values() for it in below} - set(table))
+    theirs = sorted({it for them in table.values() for it in them} - set(table))
     found = {name: library(name, version, licenses=LICENSE) for name in sorted(table)}
     return found | {name: library(name, kit, description="a library of the toolchain") for name in theirs}
 
@@ -81,7 +98,7 @@ def of_c() -> List[Dict[str, Any]]:
     for file, terms in OF_C.items():
         path = Path(parts.run(["gcc", f"-print-file-name={file}"]).strip()).resolve()
         for name, number in debian_packages([str(path)]).items():
-            found.append(library(name, number, purl=f"pkg:deb/debian/{name}@{number}", licenses=[{"expression": terms}]))
+            found.append(of_debian(name, number, licenses=[{"expression": terms}]))
     return found
 
 
@@ -93,8 +110,7 @@ def of_go() -> tuple[List[Dict[str, Any]], Dict[str, List[str]]]:
     for name, source in GO_PROGRAMS.items():
         packages = debian_packages(go_folders(f"{GO_MODULE}/{source}"))
         for package, number in packages.items():
-            purl = f"pkg:deb/debian/{package}@{number}"
-            found[package] = library(package, number, purl=purl)
+            found[package] = of_debian(package, number)
         uses[name] = sorted(found[it]["bom-ref"] for it in ["go", *packages])
     return [found[name] for name in sorted(found)], uses
 
