@@ -8,6 +8,7 @@ import re
 import tempfile
 import uuid
 from datetime import datetime, timezone
+from functools import cache
 from pathlib import Path
 from typing import Any, Dict, Iterable, List
 from urllib.parse import quote
@@ -31,6 +32,7 @@ def crates() -> Dict[str, List[str]]:
     return found
 
 
+@cache
 def go_folders(package: str) -> List[str]:
     """The folders of the libraries that a program in Go is built over, but for Go's own and ours."""
     with tempfile.TemporaryDirectory() as work:
