@@ -1,10 +1,28 @@
 """Debian's packages, which root installs where a check needs what isn't there."""
 import os
+import re
 import shutil
 import subprocess
 
 # How many seconds apt-get may take.
 INSTALL_SECONDS = 180
+# Where these packages have the sources of Go's libraries, and those that the clients are built over.
+GO_LIBRARIES = "/usr/share/gocode"
+SNAPSHOTTER = f"{GO_LIBRARIES}/src/github.com/containerd/containerd/snapshots/testsuite"
+ETCD_CLIENT = f"{GO_LIBRARIES}/src/go.etcd.io/etcd/clientv3"
+TOML = f"{GO_LIBRARIES}/src/github.com/pelletier/go-toml"
+PROMETHEUS = f"{GO_LIBRARIES}/src/github.com/prometheus/client_golang"
+# The first version of Go that has what the clients use.
+GO_VERSION = (1, 19)
+
+
+def go_version():
+    """That of the command `go`, or None where it isn't there."""
+    if not shutil.which("go"):
+        return None
+    told = subprocess.run(["go", "version"], capture_output=True, text=True).stdout
+    told = re.match(r"go version \D*(\d+)\.(\d+)", told)
+    return told and (int(told[1]), int(told[2]))
 
 
 def install(packages):

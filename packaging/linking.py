@@ -2,6 +2,7 @@
 from __future__ import annotations
 
 import sys
+from functools import cache
 from pathlib import Path
 from typing import List
 
@@ -22,6 +23,7 @@ FLAGS = "-Wl,-z,relro,-z,now,-z,noexecstack,--gc-sections,--no-dependent-librari
 NOTICES = {"copyright": Path("/usr/share/doc/libc6-dev/copyright"), "LGPL-2.1": Path("/usr/share/common-licenses/LGPL-2.1")}
 
 
+@cache
 def kit() -> Path:
     """The toolchain's folder."""
     return Path(parts.run(["rt", "doc"]).strip()).parent
