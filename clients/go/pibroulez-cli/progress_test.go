@@ -36,7 +36,7 @@ func TestProgress(t *testing.T) {
 	readUntil(t, keys, clearLine+"journal: 0 s, 7 read")
 	end()
 	io.WriteString(shown, "ended")
-	if last := clearLine + readUntil(t, keys, "ended"); !strings.HasSuffix(last, clearLine) {
+	if last := readUntil(t, keys, "ended"); !strings.HasSuffix(last, clearLine) {
 		t.Errorf("%q is left", last)
 	}
 	equal(t, progressWords("check", 61*time.Second, 0), "check: 61 s")
