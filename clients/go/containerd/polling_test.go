@@ -38,8 +38,10 @@ func polls() (snapshots, files, rounds int) {
 }
 
 const (
-	// How many rounds are asked of overlayfs too, one question after another.
-	mostTimed = 100
+	// How many rounds are asked of overlayfs too, one question after another: all of so many, and of more these.
+	mostTimed, someTimed = 100, 20
+	// After how many parts of the further rounds memory and log are looked at.
+	parts = 20
 	// By how many callers at once further ones are asked here.
 	mostCallers = 4
 	// By how many bytes this process may grow.
@@ -83,7 +85,7 @@ func TestPolling(t *testing.T) {
 	count, files, rounds := polls()
 	timed := rounds
 	if timed > mostTimed {
-		timed = mostTimed
+		timed = someTimed
 	}
 	root := rootInMemory(t)
 	own := newSnapshotter(t, root)
@@ -137,14 +139,17 @@ func TestPolling(t *testing.T) {
 			ask("overlayfs", key)
 		}
 	}
-	further := (rounds - timed) / 2
-	askMany(t, both["here"], called, keys, 1+files, further)
-	stays("in the middle")
-	askMany(t, both["here"], called, keys, 1+files, rounds-timed-further)
-	stays("at the end")
+	stays(fmt.Sprintf("after %d questions", 2*count*timed))
+	for part, asked := 1, timed; part <= parts && rounds > timed; part++ {
+		until := timed + (rounds-timed)*part/parts
+		askMany(t, both["here"], called, keys, 1+files, until-asked)
+		asked = until
+		stays(fmt.Sprintf("after %d questions", 2*count*asked))
+	}
 	ours, other := median(took["here"]), median(took["overlayfs"])
-	t.Logf("%d questions of %d snapshots: a usage and a status take %v here and %v of overlayfs in the middle; 99 of 100 within %v and %v",
-		2*count*rounds, count, ours, other, took["here"][len(took["here"])*99/100], took["overlayfs"][len(took["overlayfs"])*99/100])
+	part := func(name string, hundredths int) time.Duration { return took[name][len(took[name])*hundredths/100] }
+	t.Logf("%d questions of %d snapshots: a usage and a status take %v here and %v of overlayfs in the middle; 10 of 100 within %v and %v, 99 within %v and %v",
+		2*count*rounds, count, ours, other, part("here", 10), part("overlayfs", 10), part("here", 99), part("overlayfs", 99))
 }
 
 // Asks for a usage and a status of each of these snapshots in so many rounds, by some callers at once.

@@ -114,6 +114,7 @@ func (it *audited) compare(ctx context.Context, a *account, layer *upper.Layer) 
 		if err != nil {
 			return err
 		}
+		hasRead(ctx, 1)
 		scan, held := item.Count(), usageOfHeld(item.Held)
 		switch {
 		case ledger == nil:

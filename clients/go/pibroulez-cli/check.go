@@ -54,6 +54,7 @@ func look(ctx context.Context, store *pibroulez.Store) (*seen, error) {
 		if s.trees[name], err = store.Tree(ctx, name); err != nil {
 			return nil, err
 		}
+		hasRead(ctx, len(s.trees[name]))
 	}
 	return s, nil
 }

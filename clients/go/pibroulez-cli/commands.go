@@ -101,6 +101,7 @@ func diff(ctx context.Context, store *pibroulez.Store, given words) (answer, err
 	changes := []pibroulez.Change{}
 	var text strings.Builder
 	err := store.DiffAll(ctx, given.rest[1], given.rest[2], func(it pibroulez.Change) error {
+		hasRead(ctx, 1)
 		changes = append(changes, it)
 		fmt.Fprintf(&text, "%s %s\n", letters[it.Change], told.Name(it.Path))
 		return nil
@@ -119,6 +120,7 @@ func journal(ctx context.Context, store *pibroulez.Store, given words) (answer, 
 	// The last ones of a tenant aren't known by their numbers, so all are gone through.
 	entries := []pibroulez.Entry{}
 	err := page(ctx, namespace, 0, func(it pibroulez.Entry) error {
+		hasRead(ctx, 1)
 		if entries = append(entries, it); uint64(len(entries)) > given.last {
 			entries = entries[1:]
 		}

@@ -73,7 +73,8 @@ type terminal struct {
 	read  int
 }
 
-func newTerminal(t *testing.T, process *exec.Cmd) *terminal {
+// Both ends of a new terminal.
+func openTerminal(t *testing.T) (keys, shown *os.File) {
 	t.Helper()
 	keys, err := os.OpenFile("/dev/ptmx", os.O_RDWR|syscall.O_NOCTTY, 0)
 	if err != nil {
@@ -86,8 +87,14 @@ func newTerminal(t *testing.T, process *exec.Cmd) *terminal {
 			t.Skipf("no terminal: %v", fault)
 		}
 	}
-	shown, err := os.OpenFile(fmt.Sprintf("/dev/pts/%d", number), os.O_RDWR|syscall.O_NOCTTY, 0)
+	shown, err = os.OpenFile(fmt.Sprintf("/dev/pts/%d", number), os.O_RDWR|syscall.O_NOCTTY, 0)
 	granted(t, err)
+	return keys, shown
+}
+
+func newTerminal(t *testing.T, process *exec.Cmd) *terminal {
+	t.Helper()
+	keys, shown := openTerminal(t)
 	defer shown.Close()
 	size := [4]uint16{50, 400}
 	syscall.Syscall(syscall.SYS_IOCTL, shown.Fd(), syscall.TIOCSWINSZ, uintptr(unsafe.Pointer(&size)))

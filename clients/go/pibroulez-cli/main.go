@@ -70,7 +70,7 @@ func run(ctx context.Context, args []string, out, errs io.Writer) int {
 	if err == nil && given.told != "" {
 		_, err = io.WriteString(out, given.told)
 	} else if err == nil {
-		err = do(ctx, given, out)
+		err = do(ctx, given, out, errs)
 	}
 	if err == nil {
 		return 0
@@ -83,10 +83,12 @@ func run(ctx context.Context, args []string, out, errs io.Writer) int {
 	return failed
 }
 
-// Makes the calls of a command, and prints what they are answered.
-func do(ctx context.Context, given words, out io.Writer) error {
+// Makes the calls of a command, and prints what they are answered. A terminal is told how far it is.
+func do(ctx context.Context, given words, out, errs io.Writer) error {
 	command, _ := commandOf(given.rest[0])
-	it, err := command.run(ctx, given)
+	told, end := withProgress(ctx, command.name, errs)
+	it, err := command.run(told, given)
+	end()
 	if err != nil {
 		return err
 	}

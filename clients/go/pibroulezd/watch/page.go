@@ -27,7 +27,7 @@ body { font: 15px/1.45 sans-serif; margin: 2em auto; max-width: 70em; padding: 0
 h1 { font-size: 1.3em } h2 { font-size: 1.1em; margin-top: 2em }
 table { border-collapse: collapse; width: 100% } th, td { text-align: left; padding: .25em .8em .25em 0; vertical-align: top }
 th { border-bottom: 1px solid #999; font-weight: 600 } td.n, th.n { text-align: right; font-variant-numeric: tabular-nums }
-td.k { word-break: break-all } .i { display: inline-block; width: 1.3em } .m { color: #777 }
+td.k { word-break: break-all; min-width: 9em } td.b { min-width: 6em } div { overflow-x: auto } .i { display: inline-block; width: 1.3em } .m { color: #777 }
 svg { display: block; width: 100%; height: 14px } .free { fill: #e4e4e4 } .used { fill: #2b6cb0 } .reserved { fill: #90b8de }
 .over { color: #b00020 } ul.key { list-style: none; padding: 0 } ul.key li { display: inline-block; margin-right: 1.5em }
 ul.key svg { display: inline-block; width: 14px; vertical-align: middle }
@@ -71,23 +71,23 @@ type page struct {
 var pages = template.Must(template.New("page").Funcs(template.FuncMap{"told": shown}).Parse(`<!doctype html>
 <html lang="en"><head><meta charset="utf-8"><title>Pibroulez</title><style>{{.Style}}</style></head><body>
 <h1>Pibroulez</h1>
-<p>{{.Report.Records}} snapshots, {{.Report.Open}} of them active; {{.Report.Entries}} entries in this round of the journal.</p>
+<p>Snapshots: {{.Report.Records}}, active: {{.Report.Open}}; entries in this round of the journal: {{.Report.Entries}}.</p>
 <h2>Tenants</h2>
 <ul class="key"><li><svg><rect class="used" width="14" height="14"/></svg> used</li><li><svg><rect class="reserved" width="14" height="14"/></svg> reserved</li><li><svg><rect class="free" width="14" height="14"/></svg> free</li></ul>
-<table><tr><th>tenant</th><th></th><th></th><th class="n">used</th><th class="n">reserved</th><th class="n">free</th><th class="n">limit</th></tr>
+<div><table><tr><th>tenant</th><th></th><th></th><th class="n">used</th><th class="n">reserved</th><th class="n">free</th><th class="n">limit</th></tr>
 {{range .Tenants}}{{$tenant := .}}{{range $number, $bar := .Bars}}<tr>
 <td class="k">{{if eq $number 0}}<a href="{{$tenant.Link}}"><bdi>{{told $tenant.Name}}</bdi></a>{{end}}</td><td>{{.Name}}</td>
-<td><svg viewBox="0 0 1000 14" preserveAspectRatio="none" role="img" aria-label="{{.Used}} used, {{.Reserved}} reserved, {{.Free}} free"><rect class="free" width="1000" height="14"/><rect class="reserved" width="{{.UsedReservedPart}}" height="14"/><rect class="used" width="{{.UsedPart}}" height="14"/></svg></td>
+<td class="b"><svg viewBox="0 0 1000 14" preserveAspectRatio="none" role="img" aria-label="{{.Used}} used, {{.Reserved}} reserved, {{.Free}} free"><rect class="free" width="1000" height="14"/><rect class="reserved" width="{{.UsedReservedPart}}" height="14"/><rect class="used" width="{{.UsedPart}}" height="14"/></svg></td>
 <td class="n">{{.Used}}</td><td class="n">{{.Reserved}}</td><td class="n">{{.Free}}</td><td class="n">{{.Limit}}</td></tr>
-{{end}}{{end}}</table>
+{{end}}{{end}}</table></div>
 {{if .Chosen}}<h2>Snapshots of <bdi>{{told .Chosen}}</bdi></h2>
-<table><tr><th>snapshot</th><th>kind</th><th class="n">id</th><th class="n">blocks</th><th class="n">inodes</th></tr>
+<div><table><tr><th>snapshot</th><th>kind</th><th class="n">id</th><th class="n">blocks</th><th class="n">inodes</th></tr>
 {{range .Nodes}}<tr><td class="k">{{range .Indents}}<span class="i"></span>{{end}}<bdi>{{told .Key}}</bdi></td><td>{{.Kind}}</td><td class="n">{{.ID}}</td><td class="n">{{.Usage.Blocks}}</td><td class="n">{{.Usage.Inodes}}</td></tr>
-{{end}}</table>{{if .More}}<p class="m">and {{.More}} more</p>{{end}}{{end}}
+{{end}}</table></div>{{if .More}}<p class="m">and {{.More}} more</p>{{end}}{{end}}
 <h2>Last entries of the journal</h2>
-<table><tr><th class="n">entry</th><th>session</th><th>call</th><th>tenant</th><th>key</th><th class="n">id</th><th>refused</th></tr>
+<div><table><tr><th class="n">entry</th><th>session</th><th>call</th><th>tenant</th><th>key</th><th class="n">id</th><th>refused</th></tr>
 {{range .Entries}}<tr><td class="n">{{.Number}}</td><td>{{.Session}}</td><td>{{.Call}}</td><td class="k"><bdi>{{with .Namespace}}{{told .}}{{end}}</bdi></td><td class="k"><bdi>{{with .Key}}{{told .}}{{end}}</bdi></td><td class="n">{{if .ID}}{{.ID}}{{end}}</td><td class="over">{{.Refused}}</td></tr>
-{{end}}</table></body></html>
+{{end}}</table></div></body></html>
 `))
 
 // A name as it is told, or its beginning.
