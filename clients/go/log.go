@@ -35,6 +35,7 @@ type log struct {
 	// By which room is held behind the lines.
 	file *os.File
 	reserve
+	marks marks
 }
 
 // LogBytes is how many bytes the store's log has, or 0 where it has none, or where a daemon has it.

@@ -616,3 +616,34 @@ func TestKilledClient(t *testing.T) {
 		checkAnswered(t, path, kill, answered, 1)
 	}
 }
+
+// One append for each call that changes the store and is waited for, with however long a line, and none for a question. What
+// an append has left that didn't come to its end is none.
+func TestLogAppends(t *testing.T) {
+	path := logPath(t)
+	store := newStoreOf(t, loggedConfig(path))
+	told := func(store *Store, want uint64) {
+		t.Helper()
+		equal(t, must[uint64](t)(store.LogAppends()), want)
+	}
+	told(store, 1)
+	for number := uint64(2); number < 5; number++ {
+		key := fmt.Sprint(number)
+		must[Prepared](t)(store.Prepare(ctx, "a", key, ""))
+		must[Info](t)(store.Stat(ctx, "a", key))
+		told(store, number)
+	}
+	must[Changed](t)(store.Symlink(ctx, "a", "2", "/s", strings.Repeat("t", 4095)))
+	told(store, 5)
+	granted(t, store.Close())
+	told(reopen(t, path), 5)
+
+	text, err := os.ReadFile(path)
+	granted(t, err)
+	left := bytes.TrimRight(text, " \x00")
+	granted(t, os.WriteFile(path+"-left", append(append([]byte{}, left...), ` "do":"session"}`+"\n"+string(markHead)+"\n"...), 0o600))
+	file, err := os.Open(path + "-left")
+	granted(t, err)
+	defer file.Close()
+	equal(t, must[uint64](t)(new(marks).count(file)), uint64(5))
+}

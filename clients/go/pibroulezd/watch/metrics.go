@@ -33,6 +33,7 @@ var (
 	snapshotsDesc   = described("snapshots", "The snapshots.", "tenant", "kind")
 	entriesDesc     = described("journal_entries", "The entries of the journal's round.")
 	logBytesDesc    = described("log_bytes", "The bytes of the log's lines.")
+	logAppendsDesc  = described("log_appends_total", "The appends to the log since it was made, each with two syncs.")
 	connectionsDesc = described("connections", "The connections of the door for lines.")
 	linesDesc       = described("lines_total", "The lines that the door has read.")
 	faultsDesc      = described("line_faults_total", "The lines that the store took for no command.")
@@ -80,7 +81,12 @@ func (c *collector) collect(ctx context.Context, to chan<- prometheus.Metric) er
 			gauge(snapshotsDesc, number, tenant, string(kind))
 		}
 	}
+	appends, err := c.config.Store.LogAppends()
+	if err != nil {
+		return err
+	}
 	gauge(logBytesDesc, c.config.Store.LogBytes())
+	count(logAppendsDesc, appends)
 	if c.config.Counts != nil {
 		tellCounts(c.config.Counts(), gauge, count)
 	}

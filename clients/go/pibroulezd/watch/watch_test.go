@@ -157,6 +157,9 @@ func TestMetrics(t *testing.T) {
 	if log := families["pibroulez_log_bytes"].GetMetric()[0].GetGauge().GetValue(); log < 100 {
 		t.Errorf("%v bytes of the log", log)
 	}
+	appends, err := s.store.LogAppends()
+	granted(t, err)
+	equal(t, families["pibroulez_log_appends_total"].GetMetric()[0].GetCounter().GetValue(), float64(appends))
 }
 
 // What a page shows: texts, in order, and whether something of it could run or lead elsewhere.
