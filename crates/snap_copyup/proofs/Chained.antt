@@ -2,17 +2,16 @@
 use Rattle.std.proofs.Common.{◌≡◌, ℕ, zero, suc, ◌+◌, ◌-◌, ◌<◌, ◌≤◌, true, false, List, [], ◌∷◌, ◌++◌, length, take, drop, get_or, Option, Some, None, refl, sym, ap, subst, ◌∙◌, arith, add-one, append-nil, length-drop}
 use Rattle.std.specs.List.{AllByRecursion}
 use Rattle.std.proofs.lemmas.List.{at_drop_more, take_more, take_all, take-append-drop}
-use Rattle.snap_path.specs.Limits.{most_mode}
 use Rattle.snap_path.specs.Text.{Names}
 use Rattle.snap_layer.specs.declared.node.Node.TheVariants as node
 use Rattle.snap_layer.specs.Tree.{Tree, at, IsDirAt}
 use Rattle.snap_layer.specs.Counts.{is_within}
-use Rattle.snap_layer.specs.Layers.{IsLayer}
+use Rattle.snap_layer.specs.Layers.{IsLayer, IsMeta}
 use Rattle.snap_layer.specs.Edits.{with_dirs, with_entry, without, IsTakeable}
 use Rattle.snap_layer.proofs.Chains.{IsVacant, vacant_after, vacant_next}
 use Rattle.snap_layer.proofs.Kept.{nothing_below}
 use Rattle.snap_layer.proofs.Replacing.{is_within_many}
-use Rattle.snap_merge.specs.Objects.{Object, dir, file, symlink, mode_of, modes_from, seen, is_shown_dir, AreLayers}
+use Rattle.snap_merge.specs.Objects.{Object, dir, file, symlink, meta_of, metas_from, seen, is_shown_dir, AreLayers}
 use Rattle.snap_merge.specs.Walk.{walk_error, walk_from}
 use Rattle.snap_merge.proofs.Views.{walk_same}
 use Rattle.snap_copyup.specs.declared.parents.Last.{Last}
@@ -28,37 +27,37 @@ use Rattle.snap_copyup.proofs.Steps.{fits_same, many_from}
 use Rattle.snap_copyup.proofs.Undoing.{fronts_there, front_takeable, front_taken}
 use Rattle.snap_copyup.proofs.Wholes.{IsWholeObject, whole_seen}
 
--- ---- the modes
+-- ---- what the directories have besides their kind
 
-low : (o : Option Object) → IsWholeObject o → mode_of o ≤ most_mode
-low None is = omega arith
-low (Some (dir mode)) is = is
-low (Some (file mode content)) is = omega arith
-low (Some (symlink target)) is = omega arith
+whole_meta : (o : Option Object) → IsWholeObject o → IsMeta (meta_of o)
+whole_meta None is = omega arith
+whole_meta (Some (dir meta)) is = is
+whole_meta (Some (file meta content)) is = omega arith
+whole_meta (Some (symlink target)) is = omega arith
 
-pub modes_low : (ls : List Tree) → AreLayers ls → (front rest : Names) → AllByRecursion (λ (m : ℕ). m ≤ most_mode) (modes_from ls front rest)
-modes_low ls ok front [] = tt
-modes_low ls ok front (n ∷ rest) = (low (seen ls front) (whole_seen ls ok front), modes_low ls ok (front ++ n ∷ []) rest)
+pub metas_whole : (ls : List Tree) → AreLayers ls → (front rest : Names) → AllByRecursion IsMeta (metas_from ls front rest)
+metas_whole ls ok front [] = tt
+metas_whole ls ok front (n ∷ rest) = (whole_meta (seen ls front) (whole_seen ls ok front), metas_whole ls ok (front ++ n ∷ []) rest)
 
-pub length_modes : (ls : List Tree) (front rest : Names) → length (modes_from ls front rest) ≡ length rest
-length_modes ls front [] = refl
-length_modes ls front (n ∷ rest) = omega (arith, length_modes ls (front ++ n ∷ []) rest)
+pub length_metas : (ls : List Tree) (front rest : Names) → length (metas_from ls front rest) ≡ length rest
+length_metas ls front [] = refl
+length_metas ls front (n ∷ rest) = omega (arith, length_metas ls (front ++ n ∷ []) rest)
 
 -- ---- the edit adds them
 
--- a directory that is seen and missing is added with its mode
-dir_with : (u : Tree) (ls : List Tree) (f : Names) → at u f ≡ None → is_shown_dir (seen (u ∷ ls) f) ≡ true → copied u ls f ≡ with_entry u f (node.Dir (mode_of (seen ls f)) false)
+-- a directory that is seen and missing is added with its meta
+dir_with : (u : Tree) (ls : List Tree) (f : Names) → at u f ≡ None → is_shown_dir (seen (u ∷ ls) f) ≡ true → copied u ls f ≡ with_entry u f (node.Dir (meta_of (seen ls f)) false)
 dir_with u ls f none is =
     copied_missing u ls f none ∙ ap (with_object u f) (sym (below_unhidden u ls f none is))
     ∙ by (seen ls f) (ap is_shown_dir (below_unhidden u ls f none is) ∙ sym (ap is_shown_dir (below_seen u ls f none)) ∙ is)
   where
-    by : (o : Option Object) → is_shown_dir o ≡ true → with_object u f o ≡ with_entry u f (node.Dir (mode_of o) false)
+    by : (o : Option Object) → is_shown_dir o ≡ true → with_object u f o ≡ with_entry u f (node.Dir (meta_of o) false)
     by None e = absurd (cc)
-    by (Some (dir mode)) e = refl
-    by (Some (file mode content)) e = absurd (cc)
+    by (Some (dir meta)) e = refl
+    by (Some (file meta content)) e = absurd (cc)
     by (Some (symlink target)) e = absurd (cc)
 
-dirs_from : (u : Tree) (ls : List Tree) (q : Names) (n : List ℕ) (rest : Names) → IsVacant u q (n ∷ rest) → walk_from (u ∷ ls) (q ++ n ∷ []) rest ≡ None → with_dirs u q (n ∷ rest) (modes_from ls (q ++ n ∷ []) rest) ≡ with_parents_from u ls (q ++ n ∷ []) rest
+dirs_from : (u : Tree) (ls : List Tree) (q : Names) (n : List ℕ) (rest : Names) → IsVacant u q (n ∷ rest) → walk_from (u ∷ ls) (q ++ n ∷ []) rest ≡ None → with_dirs u q (n ∷ rest) (metas_from ls (q ++ n ∷ []) rest) ≡ with_parents_from u ls (q ++ n ∷ []) rest
 dirs_from u ls q n [] vacant way = refl
 dirs_from u ls q n (m ∷ rest) vacant way =
     let f = q ++ n ∷ [] in
@@ -66,16 +65,16 @@ dirs_from u ls q n (m ∷ rest) vacant way =
     let same = dir_with u ls f (vacant []) passes.0 in
     let step = dir_copied u ls f (length f + 1) passes.0 (omega arith) in
     let way_on = walk_same (u ∷ ls) (copied u ls f ∷ ls) step.view (f ++ m ∷ []) rest ∙ passes.1 in
-    dirs_from (with_entry u f (node.Dir (mode_of (seen ls f)) false)) ls f m rest (vacant_next u q n (m ∷ rest) (mode_of (seen ls f)) vacant) (subst (λ (t : Tree). walk_from (t ∷ ls) (f ++ m ∷ []) rest ≡ None) same way_on)
+    dirs_from (with_entry u f (node.Dir (meta_of (seen ls f)) false)) ls f m rest (vacant_next u q n (m ∷ rest) (meta_of (seen ls f)) vacant) (subst (λ (t : Tree). walk_from (t ∷ ls) (f ++ m ∷ []) rest ≡ None) same way_on)
     ∙ ap (λ (t : Tree). with_parents_from t ls (f ++ m ∷ []) rest) (sym same)
 
-dirs_after : (u : Tree) (ls : List Tree) (p : Names) (j : ℕ) → j < length p → IsVacant u (take j p) (drop j p) → walk_from (u ∷ ls) (take (j + 1) p) (drop (j + 1) p) ≡ None → with_dirs u (take j p) (drop j p) (modes_from ls (take (j + 1) p) (drop (j + 1) p)) ≡ with_parents_from u ls (take (j + 1) p) (drop (j + 1) p)
+dirs_after : (u : Tree) (ls : List Tree) (p : Names) (j : ℕ) → j < length p → IsVacant u (take j p) (drop j p) → walk_from (u ∷ ls) (take (j + 1) p) (drop (j + 1) p) ≡ None → with_dirs u (take j p) (drop j p) (metas_from ls (take (j + 1) p) (drop (j + 1) p)) ≡ with_parents_from u ls (take (j + 1) p) (drop (j + 1) p)
 dirs_after u ls p j lt vacant way =
     let n = get_or p j [] in
     let rest = drop (j + 1) p in
     let front = take_more p j [] lt in
-    at_drop_more (λ (d : Names). with_dirs u (take j p) d (modes_from ls (take (j + 1) p) rest)) p j [] lt
-    ∙ ap (λ (f : Names). with_dirs u (take j p) (n ∷ rest) (modes_from ls f rest)) front
+    at_drop_more (λ (d : Names). with_dirs u (take j p) d (metas_from ls (take (j + 1) p) rest)) p j [] lt
+    ∙ ap (λ (f : Names). with_dirs u (take j p) (n ∷ rest) (metas_from ls f rest)) front
     ∙ dirs_from u ls (take j p) n rest (subst (IsVacant u (take j p)) (at_drop_more (λ (d : Names). d) p j [] lt) vacant) (subst (λ (f : Names). walk_from (u ∷ ls) f rest ≡ None) front way)
     ∙ ap (λ (f : Names). with_parents_from u ls f rest) (sym front)
 
@@ -85,8 +84,8 @@ pub record IsMissing (u : Tree) (ls : List Tree) (p : Names) (n : ℕ) : Type 0 
   pub some : 1 ≤ n
   pub dir : IsDirAt (at u (take (n - 1) p))
   pub bare : n - 1 < length p → at u (take (n - 1 + 1) p) ≡ None
-  pub long : n - 1 + length (modes_from ls (take n p) (drop n p)) ≤ length p
-  pub same : with_dirs u (take (n - 1) p) (drop (n - 1) p) (modes_from ls (take n p) (drop n p)) ≡ with_parents u ls p
+  pub long : n - 1 + length (metas_from ls (take n p) (drop n p)) ≤ length p
+  pub same : with_dirs u (take (n - 1) p) (drop (n - 1) p) (metas_from ls (take n p) (drop n p)) ≡ with_parents u ls p
 
 pub is_missing : (u : Tree) (ls : List Tree) (p : Names) (n : ℕ) → IsLayer u → walk_error (u ∷ ls) p ≡ None → StandsAbove u p n → n < length p → IsMissing u ls p n
 is_missing u ls p zero ok way stands lt = absurd (subst IsDirAt (stands.end lt) ok.root)
@@ -94,8 +93,8 @@ is_missing u ls p (suc j) ok way stands lt = subst (λ (n : ℕ). IsMissing u ls
   some = omega arith;
   dir = subst (λ (i : ℕ). IsDirAt (at u (take i p))) back dir_at;
   bare = λ less. ap (λ (i : ℕ). at u (take i p)) (omega arith) ∙ none;
-  long = omega (arith, length_modes ls (take (j + 1) p) (drop (j + 1) p), length-drop (j + 1) p, lt);
-  same = ap (λ (i : ℕ). with_dirs u (take i p) (drop i p) (modes_from ls (take (j + 1) p) (drop (j + 1) p))) (sym back)
+  long = omega (arith, length_metas ls (take (j + 1) p) (drop (j + 1) p), length-drop (j + 1) p, lt);
+  same = ap (λ (i : ℕ). with_dirs u (take i p) (drop i p) (metas_from ls (take (j + 1) p) (drop (j + 1) p))) (sym back)
       ∙ dirs_after u ls p j less vacant above.way ∙ sym above.same;
 })
   where

@@ -30,7 +30,7 @@ use Rattle.snap_copyup.proofs.Wholes.{IsWholeObject, whole_below, vacant}
 -- ---- a new file or symlink
 
 number_hides : (n : Node) (k : ℕ) → number_of n ≡ Some k → node_hides (Some n) ≡ true
-number_hides (node.Dir mode opaque) k e = absurd (cc)
+number_hides (node.Dir meta opaque) k e = absurd (cc)
 number_hides (node.File j) k e = refl
 number_hides (node.Symlink j) k e = refl
 number_hides node.Whiteout k e = absurd (cc)
@@ -83,8 +83,8 @@ module _ (u t : Tree) (ls : List Tree) (p : Names) (ok : IsLayer u) (free : IsFr
 
 pub same_object : (t : Tree) (p : Names) (o : Option Object) → with_last (last_of None o) t p ≡ with_object t p o
 same_object t p None = refl
-same_object t p (Some (dir mode)) = refl
-same_object t p (Some (file mode content)) = refl
+same_object t p (Some (dir meta)) = refl
+same_object t p (Some (file meta content)) = refl
 same_object t p (Some (symlink target)) = refl
 
 module _ (u : Tree) (ls : List Tree) (p : Names) (way : walk_error (u ∷ ls) p ≡ None) where
@@ -124,8 +124,8 @@ module _ (u : Tree) (ls : List Tree) (p : Names) (way : walk_error (u ∷ ls) p 
 
       seen_as : (o : Option Object) → at u p ≡ None → seen (u ∷ ls) p ≡ o → seen (with_object t p o ∷ ls) q ≡ seen (u ∷ ls) q
       seen_as None none was = adds.view q
-      seen_as (Some (dir mode)) none was = (one_dir t ls p mode (length p + 1) (there ∙ none) (adds.view p ∙ was) (omega arith)).view q ∙ adds.view q
-      seen_as (Some (file mode content)) none was = new (node.File t.next) (body_kinds.File mode content) none refl was refl
+      seen_as (Some (dir meta)) none was = (one_dir t ls p meta (length p + 1) (there ∙ none) (adds.view p ∙ was) (omega arith)).view q ∙ adds.view q
+      seen_as (Some (file meta content)) none was = new (node.File t.next) (body_kinds.File meta content) none refl was refl
       seen_as (Some (symlink target)) none was = new (node.Symlink t.next) (body_kinds.Symlink target) none refl was refl
 
       by : (o : Option Node) → at u p ≡ o → seen (copied_up u ls p ∷ ls) q ≡ seen (u ∷ ls) q
@@ -138,8 +138,8 @@ copy_fits u ls p ok layers = by (at u p) refl
   where
     fits : (o : Option Object) → at u p ≡ None → IsWholeObject o → CanStand (last_of None o) u p
     fits None none whole = tt
-    fits (Some (dir mode)) none whole = (vacant u p ok none, whole)
-    fits (Some (file mode content)) none whole = (vacant u p ok none, whole.0, whole.1)
+    fits (Some (dir meta)) none whole = (vacant u p ok none, whole)
+    fits (Some (file meta content)) none whole = (vacant u p ok none, whole.0, whole.1)
     fits (Some (symlink target)) none whole = (vacant u p ok none, whole)
 
     by : (o : Option Node) → at u p ≡ o → CanStand (last_of o (below u ls p)) u p

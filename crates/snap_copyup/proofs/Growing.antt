@@ -7,6 +7,7 @@ use Rattle.std.specs.Map.{lookup, keys_of}
 use Rattle.std.specs.BTreeMap.{is_at, insert_entry}
 use Rattle.std.proofs.lemmas.List.{at_drop_more, at_drop_all, take_more}
 use Rattle.snap_path.specs.Text.{Names, text_below, begins}
+use Rattle.snap_layer.specs.declared.node.Meta.{Meta}
 use Rattle.snap_layer.specs.declared.node.Node.{Node}
 use Rattle.snap_layer.specs.declared.node.Node.TheVariants as node
 use Rattle.snap_layer.specs.declared.node.Body.{Body}
@@ -67,11 +68,11 @@ pub record Grows (u t : Tree) (n : ℕ) : Type 0 where
 one_more : (u : Tree) (p : Names) (n : Node) (i : ℕ) → IsStrictlySortedBy path_cmp (keys_of u.entries) → at u p ≡ None → inodes_of (Some n) ≡ i → inode_count (with_entry u p n) ≡ inode_count u + i
 one_more u p n i sorted none is = omega (arith, inode_count-with_entry u p n sorted, ap inodes_of none, is)
 
-one_block : (u : Tree) (p : Names) (mode : ℕ) → IsStrictlySortedBy path_cmp (keys_of u.entries) → at u p ≡ None → block_count (with_entry u p (node.Dir mode false)) ≡ block_count u + 1
-one_block u p mode sorted none = omega (arith, block_count-with_entry u p (node.Dir mode false) sorted, ap (weight dirs) none)
+one_block : (u : Tree) (p : Names) (meta : Meta) → IsStrictlySortedBy path_cmp (keys_of u.entries) → at u p ≡ None → block_count (with_entry u p (node.Dir meta false)) ≡ block_count u + 1
+one_block u p meta sorted none = omega (arith, block_count-with_entry u p (node.Dir meta false) sorted, ap (weight dirs) none)
 
-no_names : (u : Tree) (p : Names) (mode k : ℕ) → IsStrictlySortedBy path_cmp (keys_of u.entries) → at u p ≡ None → name_count k (with_entry u p (node.Dir mode false)).entries ≡ name_count k u.entries
-no_names u p mode k sorted none = omega (arith, name_count-insert_entry k u.entries p (node.Dir mode false) sorted, ap (weight (λ m. if has_number k m then 1 else 0)) none)
+no_names : (u : Tree) (p : Names) (meta : Meta) (k : ℕ) → IsStrictlySortedBy path_cmp (keys_of u.entries) → at u p ≡ None → name_count k (with_entry u p (node.Dir meta false)).entries ≡ name_count k u.entries
+no_names u p meta k sorted none = omega (arith, name_count-insert_entry k u.entries p (node.Dir meta false) sorted, ap (weight (λ m. if has_number k m then 1 else 0)) none)
 
 grows_none : (u : Tree) → IsStrictlySortedBy path_cmp (keys_of u.entries) → Grows u u 0
 grows_none u sorted = record { sorted = sorted; inodes = omega arith; blocks = omega arith; names = λ k. refl }
@@ -81,11 +82,11 @@ grows_once u ls p sorted is = by (at u p) refl
   where
     seen_as : (o : Option Object) → at u p ≡ None → is_shown_dir o ≡ true → Grows u (with_object u p o) 1
     seen_as None none is = absurd (cc)
-    seen_as (Some (dir mode)) none is = record {
-      sorted = sorted-with_entry u p (node.Dir mode false) sorted;
-      inodes = one_more u p (node.Dir mode false) 1 sorted none refl;
-      blocks = one_block u p mode sorted none;
-      names = λ k. no_names u p mode k sorted none;
+    seen_as (Some (dir meta)) none is = record {
+      sorted = sorted-with_entry u p (node.Dir meta false) sorted;
+      inodes = one_more u p (node.Dir meta false) 1 sorted none refl;
+      blocks = one_block u p meta sorted none;
+      names = λ k. no_names u p meta k sorted none;
     }
     seen_as (Some (file k b)) none is = absurd (cc)
     seen_as (Some (symlink b)) none is = absurd (cc)
@@ -167,7 +168,7 @@ module _ (u t : Tree) (ls : List Tree) (p : Names) (ok : IsLayer u) (none : at u
 
   pub last_inodes : (last : Last) → inode_count t ≤ inode_count (with_last last t p)
   last_inodes Nothing = omega arith
-  last_inodes (Dir mode opaque) = omega (arith, one_more t p (node.Dir mode opaque) 1 sorted empty refl)
-  last_inodes (File mode content) = omega (arith, new_inodes (node.File t.next) (body_kinds.File mode content) refl)
+  last_inodes (Dir meta opaque) = omega (arith, one_more t p (node.Dir meta opaque) 1 sorted empty refl)
+  last_inodes (File meta content) = omega (arith, new_inodes (node.File t.next) (body_kinds.File meta content) refl)
   last_inodes (Symlink target) = omega (arith, new_inodes (node.Symlink t.next) (body_kinds.Symlink target) refl)
   last_inodes Whiteout = omega (arith, one_more t p node.Whiteout 1 sorted empty refl, ap (λ (w : Tree). inode_count (with_entry w p node.Whiteout)) untaken)

@@ -38,7 +38,7 @@ step_layer u ls front ok layers is path parent few = by (at u front) refl
   where
     put : (o : Option Object) → at u front ≡ None → is_shown_dir o ≡ true → IsWholeObject o → inode_count (with_object u front o) ≤ (with_object u front o).most → IsLayer (with_object u front o)
     put None none is whole few = ok
-    put (Some (dir mode)) none is whole few = IsLayer-with_entry u front (node.Dir mode false) ok (record {
+    put (Some (dir meta)) none is whole few = IsLayer-with_entry u front (node.Dir meta false) ok (record {
       no_number = ap (option_and_then number_of) none;
       stays = λ d. refl;
       parent = parent;
@@ -47,7 +47,7 @@ step_layer u ls front ok layers is path parent few = by (at u front) refl
       whole = whole;
       few = few;
     })
-    put (Some (file mode content)) none is whole few = absurd (cc)
+    put (Some (file meta content)) none is whole few = absurd (cc)
     put (Some (symlink target)) none is whole few = absurd (cc)
 
     by : (o : Option Node) → at u front ≡ o → IsLayer (copied u ls front)
@@ -104,13 +104,13 @@ last_from t within = by (nat_le (inode_count t) t.most) within
 
 pub IsLayer-with_last : (t : Tree) (p : Names) (last : Last) → IsLayer t → IsPath p → CanStand last t p → ParentStands t p → is_within (with_last last t p) ≡ true → IsLayer (with_last last t p)
 IsLayer-with_last t p Nothing ok path fit parent within = ok
-IsLayer-with_last t p (Dir mode opaque) ok path fit parent within =
-    let same = with_node-free t ok p (node.Dir mode opaque) fit.0.free in
-    let becomes = dir_becomes t ok p path (inode_count (without t p)) refl mode opaque (room t p fit.0 parent) fit.1 in
-    subst IsLayer same (becomes.layer (omega (arith, becomes.count, ap inode_count same, few_from (with_entry t p (node.Dir mode opaque)) within)))
-IsLayer-with_last t p (File mode content) ok path fit parent within =
-    let v = with_last (File mode content) t p in
-    let becomes = file_becomes t ok p path (inode_count (without t p)) refl (place t p ok fit.0 parent) (omega (arith, last_from v within)) mode content fit.1 fit.2 in
+IsLayer-with_last t p (Dir meta opaque) ok path fit parent within =
+    let same = with_node-free t ok p (node.Dir meta opaque) fit.0.free in
+    let becomes = dir_becomes t ok p path (inode_count (without t p)) refl meta opaque (room t p fit.0 parent) fit.1 in
+    subst IsLayer same (becomes.layer (omega (arith, becomes.count, ap inode_count same, few_from (with_entry t p (node.Dir meta opaque)) within)))
+IsLayer-with_last t p (File meta content) ok path fit parent within =
+    let v = with_last (File meta content) t p in
+    let becomes = file_becomes t ok p path (inode_count (without t p)) refl (place t p ok fit.0 parent) (omega (arith, last_from v within)) meta content fit.1 fit.2 in
     becomes.layer (omega (arith, becomes.count, few_from v within))
 IsLayer-with_last t p (Symlink target) ok path fit parent within =
     let v = with_last (Symlink target) t p in

@@ -11,8 +11,8 @@ use Rattle.snap_copyup.specs.Places.{with_last}
 
 most_object : (u : Tree) (p : Names) (o : Option Object) → (with_object u p o).most ≡ u.most
 most_object u p None = refl
-most_object u p (Some (dir mode)) = refl
-most_object u p (Some (file mode content)) = refl
+most_object u p (Some (dir meta)) = refl
+most_object u p (Some (file meta content)) = refl
 most_object u p (Some (symlink target)) = refl
 
 pub most_copied : (u : Tree) (ls : List Tree) (p : Names) → (copied u ls p).most ≡ u.most
@@ -34,7 +34,7 @@ most_copied_up u ls p = most_copied (with_parents u ls p) ls p ∙ most_parents 
 
 pub most_last : (last : Last) (t : Tree) (p : Names) → (with_last last t p).most ≡ t.most
 most_last Nothing t p = refl
-most_last (Dir mode opaque) t p = refl
-most_last (File mode content) t p = refl
+most_last (Dir meta opaque) t p = refl
+most_last (File meta content) t p = refl
 most_last (Symlink target) t p = refl
 most_last Whiteout t p = refl

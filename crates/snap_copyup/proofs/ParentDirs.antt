@@ -2,6 +2,7 @@
 use Rattle.std.proofs.Common.{◌≡◌, inl, inr, ℕ, ◌+◌, ◌<◌, ◌≤◌, true, false, List, [], ◌∷◌, ◌++◌, length, Option, Some, None, is_some, refl, sym, ap, subst, ◌∙◌, arith, length-append, append_assoc, append-nil}
 use Rattle.std.specs.Prelude.{option_and_then, if◌then◌else◌}
 use Rattle.snap_path.specs.Text.{Names, begins}
+use Rattle.snap_layer.specs.declared.node.Meta.{Meta}
 use Rattle.snap_layer.specs.declared.node.Node.{Node}
 use Rattle.snap_layer.specs.declared.node.Node.TheVariants.{Dir}
 use Rattle.snap_layer.specs.Tree.{Tree, IsDirAt, at, number_at, number_of, node_hides}
@@ -42,7 +43,7 @@ both u t v ls m a b = record {
 }
 
 -- one directory that was seen from below
-pub one_dir : (u : Tree) (ls : List Tree) (p : Names) (k m : ℕ) → at u p ≡ None → seen (u ∷ ls) p ≡ Some (dir k) → length p < m → AddsParents u (with_entry u p (Dir k false)) ls m
+pub one_dir : (u : Tree) (ls : List Tree) (p : Names) (k : Meta) (m : ℕ) → at u p ≡ None → seen (u ∷ ls) p ≡ Some (dir k) → length p < m → AddsParents u (with_entry u p (Dir k false)) ls m
 one_dir u ls p k m none was short = record {
   bodies = refl;
   next = refl;

@@ -4,6 +4,7 @@ use Rattle.std.proofs.lemmas.List.{at_drop_more, take_more, take-append-drop}
 use Rattle.std.proofs.lemmas.Bool.Decides.{nat_tests}
 use Rattle.snap_path.specs.Limits.{most_number}
 use Rattle.snap_path.specs.Text.{Names}
+use Rattle.snap_layer.specs.declared.node.Meta.{Meta}
 use Rattle.snap_layer.specs.declared.node.Node.TheVariants as node
 use Rattle.snap_layer.specs.Tree.{Tree, at, IsDirAt}
 use Rattle.snap_layer.specs.Counts.{inode_count, is_within}
@@ -56,8 +57,8 @@ vacant_same u v p same vacant = record { below_root = vacant.below_root; free = 
 
 pub fits_same : (last : Last) (u v : Tree) (p : Names) → at v p ≡ at u p → CanStand last u p → CanStand last v p
 fits_same Nothing u v p same fit = fit
-fits_same (Dir mode opaque) u v p same fit = (vacant_same u v p same fit.0, fit.1)
-fits_same (File mode content) u v p same fit = (vacant_same u v p same fit.0, fit.1, fit.2)
+fits_same (Dir meta opaque) u v p same fit = (vacant_same u v p same fit.0, fit.1)
+fits_same (File meta content) u v p same fit = (vacant_same u v p same fit.0, fit.1, fit.2)
 fits_same (Symlink target) u v p same fit = (vacant_same u v p same fit.0, fit.1)
 fits_same Whiteout u v p same fit = vacant_same u v p same fit
 
@@ -113,13 +114,13 @@ module _ (u : Tree) (ls : List Tree) (p : Names) (k : ℕ) (lt : k < length p) (
   adds : AddsParents u (copied u ls (take k p)) ls (length (take k p) + 1)
   adds = dir_copied u ls (take k p) (length (take k p) + 1) (walk_step u ls p k lt way).0 (omega arith)
 
-  is_dir_with : (mode : ℕ) × (copied u ls (take k p) ≡ with_entry u (take k p) (node.Dir mode false))
+  is_dir_with : (meta : Meta) × (copied u ls (take k p) ≡ with_entry u (take k p) (node.Dir meta false))
   is_dir_with = by (below u ls front) refl (sym (ap is_shown_dir (below_seen u ls front none)) ∙ (walk_step u ls p k lt way).0)
     where
-      by : (o : Option Object) → below u ls (take k p) ≡ o → is_shown_dir o ≡ true → (mode : ℕ) × (copied u ls (take k p) ≡ with_entry u (take k p) (node.Dir mode false))
+      by : (o : Option Object) → below u ls (take k p) ≡ o → is_shown_dir o ≡ true → (meta : Meta) × (copied u ls (take k p) ≡ with_entry u (take k p) (node.Dir meta false))
       by None e is = absurd (cc)
-      by (Some (dir mode)) e is = (mode, copied_missing u ls front none ∙ ap (with_object u front) e)
-      by (Some (file mode content)) e is = absurd (cc)
+      by (Some (dir meta)) e is = (meta, copied_missing u ls front none ∙ ap (with_object u front) e)
+      by (Some (file meta content)) e is = absurd (cc)
       by (Some (symlink target)) e is = absurd (cc)
 
   -- nothing stands at the path

@@ -6,6 +6,7 @@ use Rattle.std.specs.Map.{keys_of}
 use Rattle.std.proofs.lemmas.List.{at_drop_more, take_more, take-append-drop}
 use Rattle.snap_layer.proofs.Replacing.{is_within_many}
 use Rattle.snap_path.specs.Text.{Names, begins}
+use Rattle.snap_layer.specs.declared.node.Meta.{Meta}
 use Rattle.snap_layer.specs.declared.node.Node.{Node}
 use Rattle.snap_layer.specs.declared.node.Node.TheVariants as node
 use Rattle.snap_layer.specs.Tree.{Tree, IsDirAt, path_cmp, at, number_at, number_of}
@@ -42,8 +43,8 @@ undoes_more (q ∷ ps) p v m u undoes takeable back = (undoes.0, undoes_more ps 
 
 walk_on_dir : (o : Option Object) (later : Option FsError) → is_shown_dir o ≡ true → later ≡ None → walk_on o later ≡ None
 walk_on_dir None later is none = absurd (cc)
-walk_on_dir (Some (dir mode)) later is none = none
-walk_on_dir (Some (file mode content)) later is none = absurd (cc)
+walk_on_dir (Some (dir meta)) later is none = none
+walk_on_dir (Some (file meta content)) later is none = absurd (cc)
 walk_on_dir (Some (symlink target)) later is none = absurd (cc)
 
 -- a walk passes each front, and goes on from there
@@ -113,13 +114,13 @@ module _ (u : Tree) (ls : List Tree) (p : Names) (k : ℕ) (lt : k < length p) (
     seen_here : is_shown_dir (seen (with_parents u ls (take k p) ∷ ls) (take k p)) ≡ true
     seen_here = ap is_shown_dir (adds.view f) ∙ shown
 
-    is_dir_with : (mode : ℕ) × (copied (with_parents u ls (take k p)) ls (take k p) ≡ with_entry (with_parents u ls (take k p)) (take k p) (node.Dir mode false))
+    is_dir_with : (meta : Meta) × (copied (with_parents u ls (take k p)) ls (take k p) ≡ with_entry (with_parents u ls (take k p)) (take k p) (node.Dir meta false))
     is_dir_with = by (below m ls f) refl (sym (ap is_shown_dir (below_seen m ls f missing_here)) ∙ seen_here)
       where
-        by : (o : Option Object) → below m ls f ≡ o → is_shown_dir o ≡ true → (mode : ℕ) × (copied (with_parents u ls (take k p)) ls (take k p) ≡ with_entry (with_parents u ls (take k p)) (take k p) (node.Dir mode false))
+        by : (o : Option Object) → below m ls f ≡ o → is_shown_dir o ≡ true → (meta : Meta) × (copied (with_parents u ls (take k p)) ls (take k p) ≡ with_entry (with_parents u ls (take k p)) (take k p) (node.Dir meta false))
         by None e is = absurd (cc)
-        by (Some (dir mode)) e is = (mode, copied_missing m ls f missing_here ∙ ap (with_object m f) e)
-        by (Some (file mode content)) e is = absurd (cc)
+        by (Some (dir meta)) e is = (meta, copied_missing m ls f missing_here ∙ ap (with_object m f) e)
+        by (Some (file meta content)) e is = absurd (cc)
         by (Some (symlink target)) e is = absurd (cc)
 
     added_is : with_parents u ls (take (k + 1) p) ≡ with_entry (with_parents u ls (take k p)) (take k p) (node.Dir is_dir_with.0 false)

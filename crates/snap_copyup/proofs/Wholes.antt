@@ -1,7 +1,6 @@
 -- What layers show is within the limits of a layer.
 use Rattle.std.proofs.Common.{◌≡◌, inl, inr, ◌≤◌, Bool, true, false, List, [], ◌∷◌, Option, Some, None, Result, Ok, Err, IfErr, IsErrAnd, refl, sym, subst}
 use Rattle.std.specs.Prelude.{if◌then◌else◌}
-use Rattle.snap_path.specs.Limits.{most_mode}
 use Rattle.snap_path.specs.Text.{Names}
 use Rattle.snap_layer.specs.declared.node.Node.{Node}
 use Rattle.snap_layer.specs.declared.node.Node.TheVariants.{Dir, File, Symlink, Whiteout}
@@ -10,7 +9,7 @@ use Rattle.snap_layer.specs.declared.node.Body.TheVariants as body_kinds
 use Rattle.snap_layer.specs.Tree.{Tree, IsDirAt, at, body, hides}
 use Rattle.snap_layer.specs.Contents.{IsContent}
 use Rattle.snap_layer.specs.Counts.{is_within}
-use Rattle.snap_layer.specs.Layers.{IsLayer, IsWhole, IsFile, IsSymlink, is_target}
+use Rattle.snap_layer.specs.Layers.{IsLayer, IsWhole, IsFile, IsSymlink, is_target, IsMeta}
 use Rattle.snap_layer.specs.Edits.{IsFree}
 use Rattle.snap_merge.specs.Objects.{Object, dir, file, symlink, seen, seen_over, shown, shown_body, AreLayers}
 use Rattle.snap_layer.specs.declared.error.LayerError.{LayerError}
@@ -20,25 +19,25 @@ use Rattle.snap_merge.specs.declared.error.FsError.{FsError}
 use Rattle.snap_copyup.specs.Copying.{below}
 use Rattle.snap_copyup.specs.Places.{IsFreePlace, IsRefusal}
 
--- the object's mode, size or target is within the limits
+-- the object's meta, content or target is within the limits
 abbrev pub IsWholeObject : Option Object → Type 0
 IsWholeObject None = Unit {0}
-IsWholeObject (Some (dir mode)) = mode ≤ most_mode
-IsWholeObject (Some (file mode content)) = (mode ≤ most_mode) × IsContent content
+IsWholeObject (Some (dir meta)) = IsMeta meta
+IsWholeObject (Some (file meta content)) = IsMeta meta × IsContent content
 IsWholeObject (Some (symlink target)) = is_target target ≡ true
 
 whole_file : (o : Option Body) → IsFile o → IsWholeObject (shown_body o)
 whole_file None is = tt
-whole_file (Some (body_kinds.File mode content)) is = is
+whole_file (Some (body_kinds.File meta content)) is = is
 whole_file (Some (body_kinds.Symlink target)) is = absurd is
 
 whole_symlink : (o : Option Body) → IsSymlink o → IsWholeObject (shown_body o)
 whole_symlink None is = tt
-whole_symlink (Some (body_kinds.File mode content)) is = absurd is
+whole_symlink (Some (body_kinds.File meta content)) is = absurd is
 whole_symlink (Some (body_kinds.Symlink target)) is = is
 
 whole_shown : (t : Tree) (n : Node) → IsWhole t n → IsWholeObject (shown t n)
-whole_shown t (Dir mode opaque) is = is
+whole_shown t (Dir meta opaque) is = is
 whole_shown t (File k) is = whole_file (body t k) is
 whole_shown t (Symlink k) is = whole_symlink (body t k) is
 whole_shown t Whiteout is = tt

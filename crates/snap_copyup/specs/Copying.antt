@@ -16,13 +16,13 @@ below u lowers p = if hides u p then None else seen lowers p
 -- the body of a file or a symlink
 abbrev pub object_body : Option Object → Option Body
 object_body None = None
-object_body (Some (dir mode)) = None
-object_body (Some (file mode content)) = Some (body_kinds.File mode content)
+object_body (Some (dir meta)) = None
+object_body (Some (file meta content)) = Some (body_kinds.File meta content)
 object_body (Some (symlink target)) = Some (body_kinds.Symlink target)
 
 -- the node is a directory that is opaque, or there is no directory under it
 abbrev pub is_pure_over : Option Node → Option Object → Bool
-is_pure_over (Some (Dir mode opaque)) under = opaque || not (is_shown_dir under)
+is_pure_over (Some (Dir meta opaque)) under = opaque || not (is_shown_dir under)
 is_pure_over other under = false
 
 -- the upper layer alone has the directory at the path: it is opaque, or no directory is below it (overlayfs.rst, "renaming directories")
@@ -32,8 +32,8 @@ is_pure u lowers p = is_pure_over (at u p) (below u lowers p)
 -- the layer with the object, if there is one: a directory that isn't opaque, or a file or symlink with the next number
 abbrev pub with_object : Tree → Names → Option Object → Tree
 with_object u p None = u
-with_object u p (Some (dir mode)) = with_entry u p (Dir mode false)
-with_object u p (Some (file mode content)) = with_new u p (File u.next) (body_kinds.File mode content)
+with_object u p (Some (dir meta)) = with_entry u p (Dir meta false)
+with_object u p (Some (file meta content)) = with_new u p (File u.next) (body_kinds.File meta content)
 with_object u p (Some (symlink target)) = with_new u p (Symlink u.next) (body_kinds.Symlink target)
 
 -- the upper layer with what is below at the path, where it has no node there
@@ -45,7 +45,7 @@ abbrev pub with_parents_from : Tree → List Tree → Names → Names → Tree
 with_parents_from u lowers front [] = u
 with_parents_from u lowers front (n ∷ rest) = with_parents_from (copied u lowers front) lowers (front ++ n ∷ []) rest
 
--- the upper layer with all directories above the path, the missing ones with the modes that are seen
+-- the upper layer with all directories above the path, each missing one with the meta of the one that is seen
 abbrev pub with_parents : Tree → List Tree → Names → Tree
 with_parents u lowers p = with_parents_from u lowers [] p
 

@@ -1,6 +1,5 @@
 -- What is put at a path, once the directories above it stand.
 use Rattle.std.specs.Prelude.{◌≡◌, ◌⊎◌, ℕ, ◌+◌, ◌<◌, ◌≤◌, true, false, List, [], ◌∷◌, ◌++◌, length, take, Option, Some, None, is_some}
-use Rattle.snap_path.specs.Limits.{most_mode}
 use Rattle.snap_path.specs.Memory.{no_memory}
 use Rattle.snap_path.specs.Text.{Names}
 use Rattle.snap_layer.specs.declared.node.Node.{Node}
@@ -9,7 +8,7 @@ use Rattle.snap_layer.specs.declared.node.Body.TheVariants as body_kinds
 use Rattle.snap_layer.specs.Tree.{Tree, at, IsDirAt}
 use Rattle.snap_layer.specs.Contents.{IsContent}
 use Rattle.snap_layer.specs.Counts.{inode_count, block_count, is_within}
-use Rattle.snap_layer.specs.Layers.{is_target}
+use Rattle.snap_layer.specs.Layers.{is_target, IsMeta}
 use Rattle.snap_layer.specs.Edits.{with_entry, with_new, with_node, IsFree}
 use Rattle.snap_merge.specs.Objects.{Object, dir, file, symlink}
 use Rattle.snap_merge.specs.declared.error.FsError.{FsError}
@@ -20,8 +19,8 @@ use Rattle.snap_copyup.specs.declared.parents.Last.TheVariants.{Nothing, Dir, Fi
 -- the layer with it: a directory, a file or a symlink with the next number, or a whiteout
 abbrev pub with_last : Last → Tree → Names → Tree
 with_last Nothing t p = t
-with_last (Dir mode opaque) t p = with_entry t p (node.Dir mode opaque)
-with_last (File mode content) t p = with_new t p (node.File t.next) (body_kinds.File mode content)
+with_last (Dir meta opaque) t p = with_entry t p (node.Dir meta opaque)
+with_last (File meta content) t p = with_new t p (node.File t.next) (body_kinds.File meta content)
 with_last (Symlink target) t p = with_new t p (node.Symlink t.next) (body_kinds.Symlink target)
 with_last Whiteout t p = with_node t p node.Whiteout
 
@@ -30,11 +29,11 @@ pub record IsFreePlace (t : Tree) (p : Names) : Type 0 where
   pub below_root : p ≡ [] → ⊥
   pub free : IsFree (at t p)
 
--- it may be put at the path: there is a place, and its mode, content or target is within the limits of a layer
+-- it may be put at the path: there is a place, and its meta, content or target is within the limits of a layer
 abbrev pub CanStand : Last → Tree → Names → Type 0
 CanStand Nothing t p = Unit {0}
-CanStand (Dir mode opaque) t p = IsFreePlace t p × (mode ≤ most_mode)
-CanStand (File mode content) t p = IsFreePlace t p × (mode ≤ most_mode) × IsContent content
+CanStand (Dir meta opaque) t p = IsFreePlace t p × IsMeta meta
+CanStand (File meta content) t p = IsFreePlace t p × IsMeta meta × IsContent content
 CanStand (Symlink target) t p = IsFreePlace t p × (is_target target ≡ true)
 CanStand Whiteout t p = IsFreePlace t p
 
@@ -60,6 +59,6 @@ ParentStands t p = (q : Names) (n : List ℕ) → p ≡ q ++ n ∷ [] → IsDirA
 abbrev pub last_of : Option Node → Option Object → Last
 last_of (Some n) under = Nothing
 last_of None None = Nothing
-last_of None (Some (dir mode)) = Dir mode false
-last_of None (Some (file mode content)) = File mode content
+last_of None (Some (dir meta)) = Dir meta false
+last_of None (Some (file meta content)) = File meta content
 last_of None (Some (symlink target)) = Symlink target

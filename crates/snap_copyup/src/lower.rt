@@ -58,8 +58,8 @@ pub fn is_pure_over(node: Option<Node>, under: Option<Seen<'_>>) -> bool
 }
 
 /// Copies up what is seen at the path: the layer gets the directories above it, as by `ensure_dirs`, and,
-/// where it has no node at the path, what is below there: a directory with its mode, not opaque, or a file
-/// or a symlink under the layer's next number, with its own copy of the content. Other names of a lower file
+/// where it has no node at the path, what is below there: a directory with its `Meta`, not opaque, or a file
+/// or a symlink under the layer's next number, with a file's `Meta` and its own copy of the content. Other names of a lower file
 /// stay names of the lower file: a hard link is broken (overlayfs.rst, "Non-standard behavior").
 ///
 /// The condition is that of `ensure_dirs`. Where nothing is seen at the path, only the directories are
@@ -90,12 +90,12 @@ fn copy_below(layer: &Layer, lowers: &[Shared], path: &Path) -> Result<Last, All
     let alloc = layer.alloc();
     match below(layer, lowers, path) {
         None => Ok(Last::Nothing),
-        Some(Seen::Dir { mode }) => Ok(Last::Dir {
-            mode,
+        Some(Seen::Dir { meta }) => Ok(Last::Dir {
+            meta,
             opaque: false,
         }),
-        Some(Seen::File { mode, content }) => Ok(Last::File {
-            mode,
+        Some(Seen::File { meta, content }) => Ok(Last::File {
+            meta,
             content: content.clone()?,
         }),
         Some(Seen::Symlink { target }) => Ok(Last::Symlink {
@@ -114,8 +114,8 @@ pub fn body_below(layer: &Layer, lowers: &[Shared], path: &Path) -> Result<Optio
     match below(layer, lowers, path) {
         None => Ok(None),
         Some(Seen::Dir { .. }) => Ok(None),
-        Some(Seen::File { mode, content }) => Ok(Some(Body::File {
-            mode,
+        Some(Seen::File { meta, content }) => Ok(Some(Body::File {
+            meta,
             content: content.clone()?,
         })),
         Some(Seen::Symlink { target }) => Ok(Some(Body::Symlink {

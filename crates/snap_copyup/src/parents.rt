@@ -9,7 +9,7 @@ ghost use Rattle.snap_copyup.specs.Copying.{with_parents};
 ghost use Rattle.snap_copyup.specs.Undoing.{fronts, Undoes};
 ghost use Rattle.snap_copyup.specs.Places.{with_last, CanStand, IsRefusal, ParentStands, StandsAbove, TakesMore};
 
-use snap_layer::{Bytes, Content, Layer, Shared};
+use snap_layer::{Bytes, Content, Layer, Meta, Shared};
 use snap_merge::{FsError, Stack, show_are_layers};
 use snap_path::{Name, Path};
 
@@ -19,17 +19,17 @@ pub enum Last {
     /// Nothing: only the directories above the path are wanted.
     Nothing,
     /// A directory.
-    Dir { mode: u32, opaque: bool },
+    Dir { meta: Meta, opaque: bool },
     /// A regular file, which gets the layer's next number.
-    File { mode: u32, content: Content },
+    File { meta: Meta, content: Content },
     /// A symlink, which gets the layer's next number.
     Symlink { target: Bytes },
     /// A whiteout.
     Whiteout,
 }
 
-/// Adds to the layer the directories above the path that it doesn't have, with the modes that are seen,
-/// and none of them opaque (overlayfs.rst, "Non-directories").
+/// Adds to the layer the directories above the path that it doesn't have, each with the [`Meta`] of the one that
+/// is seen, and none of them opaque (overlayfs.rst, "Non-directories").
 ///
 /// The condition is that each directory above the path is seen as one over the lower layers, the nearest
 /// first, so that `Stack::walk` finds no error. `LayerFull` where the layer would have more inodes than it
@@ -54,7 +54,7 @@ pub fn ensure_dirs(layer: &mut Layer, lowers: &[Shared], path: &Path) -> Result<
 /// what is to stand at the path itself. Either all of it is added or nothing.
 ///
 /// The conditions: each directory above the path is seen as one, as in `ensure_dirs`; and what is put is
-/// nothing, or nothing but a whiteout stands at the path, which isn't the root, and the mode, the content or
+/// nothing, or nothing but a whiteout stands at the path, which isn't the root, and the [`Meta`], the content or
 /// the target is one that `add_dir`, `add_file` or `add_symlink` takes. `LayerFull` where the layer would
 /// have more inodes than it may, or where the file numbers are used up. `OutOfMemory` where memory is
 /// refused. After either the layer is as it was, and the content is gone. Cost: as `ensure_dirs`.
@@ -98,8 +98,8 @@ fn add_missing(
     ensures error { IfErr result (λ e. IsRefusal (with_parents layer.old lowers.now path.now) e) }
     ensures unchanged { OnErr result (layer.new ≡ layer.old) }
 {
-    let modes = Stack::of(lowers).modes(layer.alloc(), path, first)?;
-    layer.add_dirs(path, first - 1, &modes)?;
+    let metas = Stack::of(lowers).metas(layer.alloc(), path, first)?;
+    layer.add_dirs(path, first - 1, &metas)?;
     Ok(())
 }
 
@@ -126,9 +126,9 @@ pub(crate) fn put_last(layer: &mut Layer, path: &Path, last: Last) -> Result<(),
 {
     match last {
         Last::Nothing => {}
-        Last::Dir { mode, opaque } => layer.add_dir(path, mode, opaque)?,
-        Last::File { mode, content } => {
-            layer.add_file(path, mode, content)?;
+        Last::Dir { meta, opaque } => layer.add_dir(path, meta, opaque)?,
+        Last::File { meta, content } => {
+            layer.add_file(path, meta, content)?;
         }
         Last::Symlink { target } => {
             layer.add_symlink(path, target)?;

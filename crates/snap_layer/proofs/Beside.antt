@@ -1,5 +1,5 @@
 -- An entry that changes, with all that was below it, and a bare target in its place.
-use Rattle.std.proofs.Common.{◌≡◌, ℕ, true, false, List, [], ◌∷◌, ◌++◌, length, length-append, Option, Some, None, IsSome, refl, sym, ap, subst, ◌∙◌, inl, inr, arith, append_assoc, append-nil}
+use Rattle.std.proofs.Common.{◌≡◌, ℕ, true, false, List, [], ◌∷◌, ◌++◌, length, length-append, Option, Some, None, IsSome, refl, sym, ap, subst, ◌∙◌, ◌⊎◌, inl, inr, arith, append_assoc, append-nil}
 use Rattle.snap_path.specs.Text.{Names, begins}
 use Rattle.snap_layer.specs.declared.node.Node.{Node}
 use Rattle.snap_layer.specs.Tree.{Tree, at, IsDirAt}
@@ -7,8 +7,8 @@ use Rattle.snap_layer.proofs.Paths.{split_front, begins-trans, begins_from}
 use Rattle.snap_layer.proofs.Moves.{not_longer, not_of_root}
 use Rattle.snap_layer.specs.declared.inode.Target.{Target}
 use Rattle.snap_layer.specs.declared.inode.Target.TheVariants as target
-use Rattle.snap_layer.specs.Walk.{SlotView, walk, node_shown, stands, IsTable, IsBare}
-use Rattle.snap_layer.proofs.Frames.{walk_agree, walk_push, walk_past}
+use Rattle.snap_layer.specs.Walk.{SlotView, walk, node_shown, stands, IsTable, IsBare, IsOpen}
+use Rattle.snap_layer.proofs.Frames.{walk_agree, walk_push, walk_past, open_bare}
 
 -- what a longer path does not begin with, a front of it does not
 pub front_out : (p x y : Names) (m : List ℕ) (q : Names) → q ≡ x ++ m ∷ y → begins p q ≡ false → begins p (x ++ m ∷ []) ≡ false
@@ -24,6 +24,22 @@ pub seen_agree : (f g : ℕ → Option Node) (o : Option Target) → ((c : ℕ) 
 seen_agree f g None same = refl
 seen_agree f g (Some target.Whiteout) same = refl
 seen_agree f g (Some (target.Inode c)) same = same c refl
+
+-- no path to an inode goes through an entry that has none
+pub open_out : (s : SlotView) (root : ℕ) (q : Names) (n : List ℕ) (d : ℕ) → walk s.entries root q ≡ Some (target.Inode d) → IsOpen (s.entries d n) → (x : Names) (c : ℕ) → walk s.entries root x ≡ Some (target.Inode c) → begins (q ++ n ∷ []) x ≡ false
+open_out s root q n d leads open_entry x c to = elim (split_front (q ++ n ∷ []) x) [ inr out ↦ out.0 | inl within ↦ absurd (by within.1 within.2) ]
+  where
+    no_inode : (o : Option Target) → IsOpen o → o ≡ Some (target.Inode c) → ⊥
+    no_inode None is e = cc
+    no_inode (Some target.Whiteout) is e = cc
+    no_inode (Some (target.Inode k)) is e = is
+
+    none : ◌≡◌ {A = Option Target} None (Some (target.Inode c)) → ⊥
+    none e = cc
+
+    by : (r : Names) → x ≡ (q ++ n ∷ []) ++ r → ⊥
+    by [] is = no_inode (s.entries d n) open_entry (sym (walk_push s.entries root d q n leads) ∙ ap (walk s.entries root) (sym (is ∙ append-nil (q ++ n ∷ []))) ∙ to)
+    by (m ∷ r) is = none (sym (ap (walk s.entries root) (is ∙ append_assoc q (n ∷ []) (m ∷ r)) ∙ walk_past s.entries root d q n m r leads (open_bare s.entries (s.entries d n) open_entry)) ∙ to)
 
 -- u' has the node at the path and nothing below it, and elsewhere what u has
 pub record Leaves (u v : Tree) (p : Names) (o : Option Node) : Type 0 where
@@ -85,8 +101,12 @@ module _ (s t : SlotView) (root : ℕ) (q : Names) (n : List ℕ) (d : ℕ) (w :
   abbrev pub IsFresh : Type 0
   IsFresh = (c : ℕ) → w ≡ Some (target.Inode c) → IsSome (t.nodes c) × (IsDirAt (t.nodes c) → (x : Names) → begins pn x ≡ false → walk s.entries root x ≡ Some (target.Inode c) → ⊥)
 
-  pub table : IsTable s root → IsFresh → IsTable t root
-  table ok fresh = record {
+  -- each inode that is left is the new target's, or one to which a path elsewhere leads
+  abbrev pub AllLeft : Type 0
+  AllLeft = (c : ℕ) → IsSome (t.nodes c) → (w ≡ Some (target.Inode c)) ⊎ ((x : Names) × (begins pn x ≡ false) × (walk s.entries root x ≡ Some (target.Inode c)))
+
+  pub table : IsTable s root → IsFresh → AllLeft → IsTable t root
+  table ok fresh left = record {
     root_dir = subst IsDirAt (sym (b.nodes [] root refl (not_of_root pn (λ e. omega (arith, ap length e, length-append q (n ∷ [])))))) ok.root_dir;
     there = λ x c leads. by_walk x c leads (λ out was. subst IsSome (sym (b.nodes x c was out)) (ok.there x c was)) (λ is new. (fresh c new).0);
     forest = λ x y c dir to_x to_y. by_walk x c to_x
@@ -96,6 +116,7 @@ module _ (s t : SlotView) (root : ℕ) (q : Names) (n : List ℕ) (d : ℕ) (w :
         (λ is new. by_walk y c to_y
         (λ out was. absurd ((fresh c new).1 dir y out was))
         (λ same again. is ∙ sym same));
+    reached = λ c some. elim (left c some) [ inl new ↦ (pn, walk_here ∙ new) | inr old ↦ (old.0, walk_out old.0 old.1 ∙ old.2) ];
   }
 
   pub shows : (u v : Tree) → ((x : Names) → stands s root x ≡ at u x) → Leaves u v pn (node_shown t.nodes w) → (x : Names) → stands t root x ≡ at v x

@@ -29,15 +29,15 @@ content_blocks (Bytes bytes) short = omega (arith, short)
 content_blocks (Sized size digest) short = omega (arith, short.0)
 
 file_blocks : (b : Body) → IsFile (Some b) → body_blocks b ≤ most_file_blocks
-file_blocks (body_kinds.File mode content) file = content_blocks content file.1
+file_blocks (body_kinds.File meta content) file = content_blocks content file.1
 file_blocks (body_kinds.Symlink target) file = absurd file
 
 symlink_blocks : (b : Body) → IsSymlink (Some b) → body_blocks b ≤ most_file_blocks
-symlink_blocks (body_kinds.File mode content) link = absurd link
+symlink_blocks (body_kinds.File meta content) link = absurd link
 symlink_blocks (body_kinds.Symlink target) link = omega arith
 
 pub body_small : (b : Body) → IsBody b → body_blocks b ≤ most_file_blocks
-body_small (body_kinds.File mode content) fits = file_blocks (body_kinds.File mode content) fits
+body_small (body_kinds.File meta content) fits = file_blocks (body_kinds.File meta content) fits
 body_small (body_kinds.Symlink target) fits = symlink_blocks (body_kinds.Symlink target) fits
 
 whole_blocks : (t : Tree) (n : Node) (k : ℕ) (b : Body) → IsWhole t n → number_of n ≡ Some k → body t k ≡ Some b → body_blocks b ≤ most_file_blocks

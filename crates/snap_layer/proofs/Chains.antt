@@ -7,12 +7,12 @@ use Rattle.std.specs.Map.{keys_of}
 use Rattle.std.proofs.lemmas.Bool.Decides.{nat_tests}
 use Rattle.std.proofs.lemmas.List.{at_drop_more, at_drop_all, take_more, take-append-drop}
 use Rattle.slab.specs.Slab.{Slab as Slots, get, Updates}
+use Rattle.snap_layer.specs.declared.node.Meta.{Meta}
 use Rattle.snap_layer.specs.declared.node.Node.{Node}
 use Rattle.snap_layer.specs.declared.node.Body.{Body}
 use Rattle.snap_layer.specs.declared.inode.Inode.{Inode}
 use Rattle.snap_layer.specs.declared.inode.Inode.TheVariants as inode
 use Rattle.snap_layer.specs.Walk.{SlotView, view_of, node_at, entry_at, entry_of, node_of, body_of, links_of, Links, Same, Adds}
-use Rattle.snap_path.specs.Limits.{most_mode}
 use Rattle.snap_path.specs.Text.{Names, IsPath}
 use Rattle.snap_path.proofs.Texts.{IsPath-front}
 use Rattle.snap_layer.specs.declared.node.Node.TheVariants as node
@@ -21,9 +21,9 @@ use Rattle.snap_layer.specs.declared.inode.Target.TheVariants as target
 use Rattle.snap_layer.specs.Tree.{Tree, IsDirAt, at, path_cmp}
 use Rattle.snap_layer.specs.Counts.{inode_count, block_count, is_within}
 use Rattle.snap_layer.specs.Totals.{path_count}
-use Rattle.snap_layer.specs.Layers.{IsLayer}
+use Rattle.snap_layer.specs.Layers.{IsLayer, IsMeta}
 use Rattle.snap_layer.specs.Edits.{with_entry, with_dirs, without, IsFree, HasRoom}
-use Rattle.snap_layer.specs.Walk.{walk, node_shown, AddsDirs, IsVacantAt}
+use Rattle.snap_layer.specs.Walk.{walk, node_shown, AddsDirs, IsOpen, IsVacantAt}
 use Rattle.snap_layer.specs.Holds.{Places}
 use Rattle.snap_layer.proofs.Paths.{snoc_same}
 use Rattle.snap_layer.proofs.Looks.{Sets-with_entry}
@@ -87,47 +87,47 @@ IsVacant u q [] = Unit {0}
 IsVacant u q (n ∷ names) = (r : Names) → at u (q ++ n ∷ r) ≡ None
 
 -- with a directory there, nothing stands at the next name
-pub vacant_next : (u : Tree) (q : Names) (n : List ℕ) (names : Names) (mode : ℕ) → IsVacant u q (n ∷ names) → IsVacant (with_entry u (q ++ n ∷ []) (node.Dir mode false)) (q ++ n ∷ []) names
-vacant_next u q n [] mode vacant = tt
-vacant_next u q n (m ∷ names) mode vacant = λ r.
-    (Sets-with_entry u (q ++ n ∷ []) (node.Dir mode false)).others ((q ++ n ∷ []) ++ m ∷ r) (λ e. omega (arith, ap length e, length-append (q ++ n ∷ []) (m ∷ r)))
+pub vacant_next : (u : Tree) (q : Names) (n : List ℕ) (names : Names) (meta : Meta) → IsVacant u q (n ∷ names) → IsVacant (with_entry u (q ++ n ∷ []) (node.Dir meta false)) (q ++ n ∷ []) names
+vacant_next u q n [] meta vacant = tt
+vacant_next u q n (m ∷ names) meta vacant = λ r.
+    (Sets-with_entry u (q ++ n ∷ []) (node.Dir meta false)).others ((q ++ n ∷ []) ++ m ∷ r) (λ e. omega (arith, ap length e, length-append (q ++ n ∷ []) (m ∷ r)))
     ∙ ap (at u) (append_assoc q (n ∷ []) (m ∷ r)) ∙ vacant (m ∷ r)
 
 -- each directory takes an inode
-pub chain_inodes : (u : Tree) (q names : Names) (modes : List ℕ) → IsStrictlySortedBy path_cmp (keys_of u.entries) → IsVacant u q names → length modes ≤ length names → inode_count (with_dirs u q names modes) ≡ inode_count u + length modes
+pub chain_inodes : (u : Tree) (q names : Names) (metas : List Meta) → IsStrictlySortedBy path_cmp (keys_of u.entries) → IsVacant u q names → length metas ≤ length names → inode_count (with_dirs u q names metas) ≡ inode_count u + length metas
 chain_inodes u q [] [] sorted vacant few = omega arith
-chain_inodes u q [] (mode ∷ modes) sorted vacant few = absurd (omega (arith, few))
+chain_inodes u q [] (meta ∷ metas) sorted vacant few = absurd (omega (arith, few))
 chain_inodes u q (n ∷ names) [] sorted vacant few = omega arith
-chain_inodes u q (n ∷ names) (mode ∷ modes) sorted vacant few =
+chain_inodes u q (n ∷ names) (meta ∷ metas) sorted vacant few =
     let p = q ++ n ∷ [] in
-    let later = chain_inodes (with_entry u p (node.Dir mode false)) p names modes (sorted-with_entry u p (node.Dir mode false) sorted) (vacant_next u q n names mode vacant) (omega (arith, few)) in
-    omega (arith, later, inode_count-with_entry u p (node.Dir mode false) sorted, ap inodes_of (vacant []))
+    let later = chain_inodes (with_entry u p (node.Dir meta false)) p names metas (sorted-with_entry u p (node.Dir meta false) sorted) (vacant_next u q n names meta vacant) (omega (arith, few)) in
+    omega (arith, later, inode_count-with_entry u p (node.Dir meta false) sorted, ap inodes_of (vacant []))
 
-pub chain_next : (u : Tree) (q names : Names) (modes : List ℕ) → (with_dirs u q names modes).next ≡ u.next
-chain_next u q [] modes = refl
+pub chain_next : (u : Tree) (q names : Names) (metas : List Meta) → (with_dirs u q names metas).next ≡ u.next
+chain_next u q [] metas = refl
 chain_next u q (n ∷ names) [] = refl
-chain_next u q (n ∷ names) (mode ∷ modes) = chain_next (with_entry u (q ++ n ∷ []) (node.Dir mode false)) (q ++ n ∷ []) names modes
+chain_next u q (n ∷ names) (meta ∷ metas) = chain_next (with_entry u (q ++ n ∷ []) (node.Dir meta false)) (q ++ n ∷ []) names metas
 
-pub chain_most : (u : Tree) (q names : Names) (modes : List ℕ) → (with_dirs u q names modes).most ≡ u.most
-chain_most u q [] modes = refl
+pub chain_most : (u : Tree) (q names : Names) (metas : List Meta) → (with_dirs u q names metas).most ≡ u.most
+chain_most u q [] metas = refl
 chain_most u q (n ∷ names) [] = refl
-chain_most u q (n ∷ names) (mode ∷ modes) = chain_most (with_entry u (q ++ n ∷ []) (node.Dir mode false)) (q ++ n ∷ []) names modes
+chain_most u q (n ∷ names) (meta ∷ metas) = chain_most (with_entry u (q ++ n ∷ []) (node.Dir meta false)) (q ++ n ∷ []) names metas
 
 -- the directories may be put there
-pub record IsChain (u : Tree) (q names : Names) (modes : List ℕ) : Type 0 where
+pub record IsChain (u : Tree) (q names : Names) (metas : List Meta) : Type 0 where
   pub layer : IsLayer u
   pub dir : IsDirAt (at u q)
   pub vacant : IsVacant u q names
   pub path : IsPath (q ++ names)
-  pub low : AllByRecursion (λ (m : ℕ). m ≤ most_mode) modes
-  pub few : inode_count u + length modes ≤ u.most
+  pub low : AllByRecursion IsMeta metas
+  pub few : inode_count u + length metas ≤ u.most
 
-module _ (u : Tree) (q : Names) (n : List ℕ) (names : Names) (mode : ℕ) (modes : List ℕ) (c : IsChain u q (n ∷ names) (mode ∷ modes)) where
+module _ (u : Tree) (q : Names) (n : List ℕ) (names : Names) (meta : Meta) (metas : List Meta) (c : IsChain u q (n ∷ names) (meta ∷ metas)) where
   abbrev p : Names
   p = q ++ n ∷ []
 
   abbrev v : Tree
-  v = with_entry u (q ++ n ∷ []) (node.Dir mode false)
+  v = with_entry u (q ++ n ∷ []) (node.Dir meta false)
 
   pub chain_free : at u (q ++ n ∷ []) ≡ None
   chain_free = c.vacant []
@@ -138,56 +138,69 @@ module _ (u : Tree) (q : Names) (n : List ℕ) (names : Names) (mode : ℕ) (mod
   room : HasRoom u (q ++ n ∷ [])
   room = record { free = free; above = record { below_root = λ e. omega (arith, ap length e, length-append q (n ∷ [])); parent = λ r m e. subst (λ (x : Names). IsDirAt (at u x)) (snoc_same q r n m e) c.dir } }
 
-  costs : Costs u (with_entry u (q ++ n ∷ []) (node.Dir mode false)) (q ++ n ∷ []) 0 1 1
-  costs = dir_costs u c.layer (q ++ n ∷ []) (IsPath-front (q ++ n ∷ names) (q ++ n ∷ []) names c.path (sym (append_assoc q (n ∷ []) names))) mode false room c.low.0
+  costs : Costs u (with_entry u (q ++ n ∷ []) (node.Dir meta false)) (q ++ n ∷ []) 0 1 1
+  costs = dir_costs u c.layer (q ++ n ∷ []) (IsPath-front (q ++ n ∷ names) (q ++ n ∷ []) names c.path (sym (append_assoc q (n ∷ []) names))) meta false room c.low.0
 
   gone : without u (q ++ n ∷ []) ≡ u
   gone = without_nothing u c.layer (q ++ n ∷ []) chain_free
 
-  one_more : inode_count (with_entry u (q ++ n ∷ []) (node.Dir mode false)) ≡ inode_count u + 1
+  one_more : inode_count (with_entry u (q ++ n ∷ []) (node.Dir meta false)) ≡ inode_count u + 1
   one_more = costs.inodes ∙ ap (λ (t : Tree). inode_count t + 1) gone
 
-  pub block_more : block_count (with_entry u (q ++ n ∷ []) (node.Dir mode false)) ≡ block_count u + 1
+  pub block_more : block_count (with_entry u (q ++ n ∷ []) (node.Dir meta false)) ≡ block_count u + 1
   block_more = costs.blocks ∙ ap (λ (t : Tree). block_count t + 1) gone
 
-  pub path_more : path_count (with_entry u (q ++ n ∷ []) (node.Dir mode false)) ≡ path_count u + 1
-  path_more = omega (arith, path_count-with_node u p (node.Dir mode false) c.layer.sorted_paths, ap path_count (with_node-free u c.layer p (node.Dir mode false) free), ap path_count gone)
+  pub path_more : path_count (with_entry u (q ++ n ∷ []) (node.Dir meta false)) ≡ path_count u + 1
+  path_more = omega (arith, path_count-with_node u p (node.Dir meta false) c.layer.sorted_paths, ap path_count (with_node-free u c.layer p (node.Dir meta false) free), ap path_count gone)
 
-  pub chain_step : IsChain (with_entry u (q ++ n ∷ []) (node.Dir mode false)) (q ++ n ∷ []) names modes
+  pub chain_step : IsChain (with_entry u (q ++ n ∷ []) (node.Dir meta false)) (q ++ n ∷ []) names metas
   chain_step = record {
     layer = costs.layer (omega (arith, c.few, one_more)) (omega (arith, c.layer.next.1));
-    dir = subst IsDirAt (sym (Sets-with_entry u p (node.Dir mode false)).here) refl;
-    vacant = vacant_next u q n names mode c.vacant;
+    dir = subst IsDirAt (sym (Sets-with_entry u p (node.Dir meta false)).here) refl;
+    vacant = vacant_next u q n names meta c.vacant;
     path = subst IsPath (sym (append_assoc q (n ∷ []) names)) c.path;
     low = c.low.1;
     few = omega (arith, c.few, one_more);
   }
 
-pub chain_layer : (u : Tree) (q names : Names) (modes : List ℕ) → IsChain u q names modes → IsLayer (with_dirs u q names modes)
-chain_layer u q [] modes c = c.layer
+pub chain_layer : (u : Tree) (q names : Names) (metas : List Meta) → IsChain u q names metas → IsLayer (with_dirs u q names metas)
+chain_layer u q [] metas c = c.layer
 chain_layer u q (n ∷ names) [] c = c.layer
-chain_layer u q (n ∷ names) (mode ∷ modes) c = chain_layer (with_entry u (q ++ n ∷ []) (node.Dir mode false)) (q ++ n ∷ []) names modes (chain_step u q n names mode modes c)
+chain_layer u q (n ∷ names) (meta ∷ metas) c = chain_layer (with_entry u (q ++ n ∷ []) (node.Dir meta false)) (q ++ n ∷ []) names metas (chain_step u q n names meta metas c)
 
 -- each directory takes a block, and has a path
-pub chain_totals : (u : Tree) (q names : Names) (modes : List ℕ) → IsChain u q names modes → length modes ≤ length names → (block_count (with_dirs u q names modes) ≡ block_count u + length modes) × (path_count (with_dirs u q names modes) ≡ path_count u + length modes)
+pub chain_totals : (u : Tree) (q names : Names) (metas : List Meta) → IsChain u q names metas → length metas ≤ length names → (block_count (with_dirs u q names metas) ≡ block_count u + length metas) × (path_count (with_dirs u q names metas) ≡ path_count u + length metas)
 chain_totals u q [] [] c few = (omega arith, omega arith)
-chain_totals u q [] (mode ∷ modes) c few = absurd (omega (arith, few))
+chain_totals u q [] (meta ∷ metas) c few = absurd (omega (arith, few))
 chain_totals u q (n ∷ names) [] c few = (omega arith, omega arith)
-chain_totals u q (n ∷ names) (mode ∷ modes) c few =
-    let later = chain_totals (with_entry u (q ++ n ∷ []) (node.Dir mode false)) (q ++ n ∷ []) names modes (chain_step u q n names mode modes c) (omega (arith, few)) in
-    (omega (arith, later.0, block_more u q n names mode modes c), omega (arith, later.1, path_more u q n names mode modes c))
+chain_totals u q (n ∷ names) (meta ∷ metas) c few =
+    let later = chain_totals (with_entry u (q ++ n ∷ []) (node.Dir meta false)) (q ++ n ∷ []) names metas (chain_step u q n names meta metas c) (omega (arith, few)) in
+    (omega (arith, later.0, block_more u q n names meta metas c), omega (arith, later.1, path_more u q n names meta metas c))
 
-pub chain_makes : (s t : SlotView) (root : ℕ) (ps : Places) (next : ℕ) (u : Tree) (q names : Names) (modes : List ℕ) (d : ℕ) → Makes s root ps next u → IsChain u q names modes → walk s.entries root q ≡ Some (target.Inode d) → IsDirAt (s.nodes d) → AddsDirs s t d names modes → Makes t root ps next (with_dirs u q names modes)
-chain_makes s t root ps next u q [] modes d m c leads dir same = makes_same s t root same ps ps next u refl m
+-- the slots have nothing at the first of the names then
+pub slots_vacant : (s : SlotView) (root : ℕ) (ps : Places) (next : ℕ) (u : Tree) (q names : Names) (d : ℕ) → Makes s root ps next u → IsVacant u q names → walk s.entries root q ≡ Some (target.Inode d) → IsVacantAt s d names
+slots_vacant s root ps next u q [] d m vacant leads = tt
+slots_vacant s root ps next u q (n ∷ names) d m vacant leads = by (s.entries d n) refl
+  where
+    none_shown : (o : Option Target) → s.entries d n ≡ o → node_shown s.nodes o ≡ None
+    none_shown o is = ap (node_shown s.nodes) (sym (walk_push s.entries root d q n leads ∙ is)) ∙ m.shows (q ++ n ∷ []) ∙ vacant []
+
+    by : (o : Option Target) → s.entries d n ≡ o → s.entries d n ≡ None
+    by None is = is
+    by (Some target.Whiteout) is = absurd (no_some node.Whiteout (sym (none_shown (Some target.Whiteout) is)))
+    by (Some (target.Inode c)) is = absurd (none_some (s.nodes c) (none_shown (Some (target.Inode c)) is) (m.table.there (q ++ n ∷ []) c (walk_push s.entries root d q n leads ∙ is)))
+
+pub chain_makes : (s t : SlotView) (root : ℕ) (ps : Places) (next : ℕ) (u : Tree) (q names : Names) (metas : List Meta) (d : ℕ) → Makes s root ps next u → IsChain u q names metas → walk s.entries root q ≡ Some (target.Inode d) → IsDirAt (s.nodes d) → AddsDirs s t d names metas → Makes t root ps next (with_dirs u q names metas)
+chain_makes s t root ps next u q [] metas d m c leads dir same = makes_same s t root same ps ps next u refl m
 chain_makes s t root ps next u q (n ∷ names) [] d m c leads dir same = makes_same s t root same ps ps next u refl m
-chain_makes s t root ps next u q (n ∷ names) (mode ∷ modes) d m c leads dir adds =
+chain_makes s t root ps next u q (n ∷ names) (meta ∷ metas) d m c leads dir adds =
     let between = adds.0 in
     let k = adds.1 in
     let one = adds.2 in
-    let beside = adds_beside s between root q n d m.table leads dir k (node.Dir mode false) None 0 one in
-    chain_makes between t root ps next (with_entry u (q ++ n ∷ []) (node.Dir mode false)) (q ++ n ∷ []) names modes k
-    (dir_makes s between root ps next u m c.layer q n d leads dir (subst IsFree (sym (chain_free u q n names mode modes c)) tt) k (node.Dir mode false) None 0 one refl)
-    (chain_step u q n names mode modes c)
+    let beside = adds_beside s between root q n d m.table leads dir k (node.Dir meta false) None 0 one in
+    chain_makes between t root ps next (with_entry u (q ++ n ∷ []) (node.Dir meta false)) (q ++ n ∷ []) names metas k
+    (dir_makes s between root ps next u m c.layer q n d leads dir (subst IsFree (sym (chain_free u q n names meta metas c)) tt) (subst IsOpen (sym (slots_vacant s root ps next u q (n ∷ names) d m c.vacant leads)) tt) k (node.Dir meta false) None 0 one refl)
+    (chain_step u q n names meta metas c)
     (walk_here s between root q n d (Some (target.Inode k)) beside)
     (subst IsDirAt (sym one.node) refl)
     adds.3
@@ -211,21 +224,8 @@ vacant_after u p k layer bare = elim (split_lt k (length p)) [
     below n none [] = none
     below n none (m ∷ r) = ap (at u) (sym (append_assoc (take k p) (n ∷ []) (m ∷ r))) ∙ nothing_below u layer (take k p ++ n ∷ []) (λ is. subst IsDirAt none is) m r
 
-pub chain_after : (u : Tree) (p : Names) (k : ℕ) (modes : List ℕ) → IsLayer u → IsPath p → IsDirAt (at u (take k p)) → (k < length p → at u (take (k + 1) p) ≡ None) → AllByRecursion (λ (m : ℕ). m ≤ most_mode) modes → inode_count u + length modes ≤ u.most → IsChain u (take k p) (drop k p) modes
-chain_after u p k modes layer path dir bare low few = record { layer = layer; dir = dir; vacant = vacant_after u p k layer bare; path = subst IsPath (sym (take-append-drop k p)) path; low = low; few = few }
-
--- the same of the slots
-pub slots_vacant : (s : SlotView) (root : ℕ) (ps : Places) (next : ℕ) (u : Tree) (q names : Names) (d : ℕ) → Makes s root ps next u → IsVacant u q names → walk s.entries root q ≡ Some (target.Inode d) → IsVacantAt s d names
-slots_vacant s root ps next u q [] d m vacant leads = tt
-slots_vacant s root ps next u q (n ∷ names) d m vacant leads = by (s.entries d n) refl
-  where
-    none_shown : (o : Option Target) → s.entries d n ≡ o → node_shown s.nodes o ≡ None
-    none_shown o is = ap (node_shown s.nodes) (sym (walk_push s.entries root d q n leads ∙ is)) ∙ m.shows (q ++ n ∷ []) ∙ vacant []
-
-    by : (o : Option Target) → s.entries d n ≡ o → s.entries d n ≡ None
-    by None is = is
-    by (Some target.Whiteout) is = absurd (no_some node.Whiteout (sym (none_shown (Some target.Whiteout) is)))
-    by (Some (target.Inode c)) is = absurd (none_some (s.nodes c) (none_shown (Some (target.Inode c)) is) (m.table.there (q ++ n ∷ []) c (walk_push s.entries root d q n leads ∙ is)))
+pub chain_after : (u : Tree) (p : Names) (k : ℕ) (metas : List Meta) → IsLayer u → IsPath p → IsDirAt (at u (take k p)) → (k < length p → at u (take (k + 1) p) ≡ None) → AllByRecursion IsMeta metas → inode_count u + length metas ≤ u.most → IsChain u (take k p) (drop k p) metas
+chain_after u p k metas layer path dir bare low few = record { layer = layer; dir = dir; vacant = vacant_after u p k layer bare; path = subst IsPath (sym (take-append-drop k p)) path; low = low; few = few }
 
 -- ---- what the layer takes then
 
@@ -236,19 +236,19 @@ pub record IsChained (u w : Tree) (k : ℕ) : Type 0 where
   pub paths : path_count w ≡ path_count u + k
   pub within : is_within w ≡ true
 
-module _ (u : Tree) (p : Names) (k : ℕ) (modes : List ℕ) (layer : IsLayer u) (bare : k < length p → at u (take (k + 1) p) ≡ None) (long : k + length modes ≤ length p) where
-  short : length modes ≤ length (drop k p)
+module _ (u : Tree) (p : Names) (k : ℕ) (metas : List Meta) (layer : IsLayer u) (bare : k < length p → at u (take (k + 1) p) ≡ None) (long : k + length metas ≤ length p) where
+  short : length metas ≤ length (drop k p)
   short = omega (arith, long, length-drop k p)
 
-  count : inode_count (with_dirs u (take k p) (drop k p) modes) ≡ inode_count u + length modes
-  count = chain_inodes u (take k p) (drop k p) modes layer.sorted_paths (vacant_after u p k layer bare) short
+  count : inode_count (with_dirs u (take k p) (drop k p) metas) ≡ inode_count u + length metas
+  count = chain_inodes u (take k p) (drop k p) metas layer.sorted_paths (vacant_after u p k layer bare) short
 
-  pub chained : IsPath p → IsDirAt (at u (take k p)) → AllByRecursion (λ (m : ℕ). m ≤ most_mode) modes → inode_count u + length modes ≤ u.most → IsChained u (with_dirs u (take k p) (drop k p) modes) (length modes)
+  pub chained : IsPath p → IsDirAt (at u (take k p)) → AllByRecursion IsMeta metas → inode_count u + length metas ≤ u.most → IsChained u (with_dirs u (take k p) (drop k p) metas) (length metas)
   chained path dir low few =
-      let chain = chain_after u p k modes layer path dir bare low few in
-      let whole = chain_layer u (take k p) (drop k p) modes chain in
-      let totals = chain_totals u (take k p) (drop k p) modes chain short in
-      record { layer = whole; inodes = count; blocks = totals.0; paths = totals.1; within = is_within_yes (with_dirs u (take k p) (drop k p) modes) whole.few whole.next.1 }
+      let chain = chain_after u p k metas layer path dir bare low few in
+      let whole = chain_layer u (take k p) (drop k p) metas chain in
+      let totals = chain_totals u (take k p) (drop k p) metas chain short in
+      record { layer = whole; inodes = count; blocks = totals.0; paths = totals.1; within = is_within_yes (with_dirs u (take k p) (drop k p) metas) whole.few whole.next.1 }
 
-  pub chain_full : u.most < inode_count u + length modes → is_within (with_dirs u (take k p) (drop k p) modes) ≡ false
-  chain_full many = is_within_many (with_dirs u (take k p) (drop k p) modes) (omega (arith, many, count, chain_most u (take k p) (drop k p) modes))
+  pub chain_full : u.most < inode_count u + length metas → is_within (with_dirs u (take k p) (drop k p) metas) ≡ false
+  chain_full many = is_within_many (with_dirs u (take k p) (drop k p) metas) (omega (arith, many, count, chain_most u (take k p) (drop k p) metas))

@@ -2,6 +2,7 @@
 use Rattle.std.proofs.Common.{◌≡◌, ℕ, ◌+◌, Bool, true, cond, List, [], ◌∷◌, ◌++◌, Option, Some, None, IsSome, refl, sym, ap, subst, ◌∙◌, inl, inr, arith}
 use Rattle.std.specs.Prelude.{option_and_then, is_some}
 use Rattle.snap_path.specs.Text.{Names}
+use Rattle.snap_layer.specs.declared.node.Meta.{Meta}
 use Rattle.snap_layer.specs.declared.node.Node.{Node}
 use Rattle.snap_layer.specs.declared.node.Node.TheVariants as node
 use Rattle.snap_layer.specs.declared.node.Body.{Body}
@@ -15,12 +16,12 @@ use Rattle.snap_layer.proofs.Counting.{weight, name_count-insert_entry}
 use Rattle.snap_layer.proofs.Kept.{has_body}
 use Rattle.snap_layer.proofs.Replacing.{other_name}
 use Rattle.snap_layer.specs.declared.inode.Target.TheVariants as target
-use Rattle.snap_layer.specs.Walk.{SlotView, walk, node_shown, stands, Gains, Renodes, Rebodies}
+use Rattle.snap_layer.specs.Walk.{SlotView, walk, node_shown, stands, IsOpen, Gains, Renodes, Rebodies}
 use Rattle.snap_layer.specs.Holds.{Places, place, IsLeafOf}
 use Rattle.snap_layer.proofs.Frames.{split_ℕ}
 use Rattle.snap_layer.proofs.Makes.{Makes}
 use Rattle.snap_layer.proofs.Beside.{Beside, by_walk, table, shows, seen_agree}
-use Rattle.snap_layer.proofs.Putting.{Spot, puts_out, entry_leaves, entry_names}
+use Rattle.snap_layer.proofs.Putting.{Spot, puts_out, reached_out, entry_leaves, entry_names}
 use Rattle.snap_layer.proofs.Files.{leaf_number}
 
 no_some : {A : Type 0} (x : A) → None ≡ Some x → ⊥
@@ -39,9 +40,9 @@ no_dir (node.Symlink k) j e dir = cc
 no_dir node.Whiteout j e dir = cc
 
 -- one more name over a free place
-pub name_makes : (s t : SlotView) (root : ℕ) (ps : Places) (next : ℕ) (u : Tree) → Makes s root ps next u → IsLayer u → (q : Names) (n : List ℕ) (d : ℕ) → walk s.entries root q ≡ Some (target.Inode d) → IsDirAt (s.nodes d) → IsFree (at u (q ++ n ∷ []))
+pub name_makes : (s t : SlotView) (root : ℕ) (ps : Places) (next : ℕ) (u : Tree) → Makes s root ps next u → IsLayer u → (q : Names) (n : List ℕ) (d : ℕ) → walk s.entries root q ≡ Some (target.Inode d) → IsDirAt (s.nodes d) → IsFree (at u (q ++ n ∷ [])) → IsOpen (s.entries d n)
     → (k j : ℕ) (v : Node) → place ps j ≡ Some k → s.nodes k ≡ Some v → number_of v ≡ Some j → Gains s t d n k → Makes t root ps next (with_entry u (q ++ n ∷ []) v)
-name_makes s t root ps next u m layer q n d leads dir free k j v found node_is named nm =
+name_makes s t root ps next u m layer q n d leads dir free open_entry k j v found node_is named nm =
     let b : Beside s t root q n d (Some (target.Inode k)) = record { leads = leads; entries = puts_out s t root q n d (Some (target.Inode k)) m.table leads dir nm.entries; here = nm.entries.here; bare = nm.bare; nodes = λ x c to out. nm.nodes c } in
     let laws = entry_leaves u layer (q ++ n ∷ []) v free in
     let new : t.nodes k ≡ Some v = nm.nodes k ∙ node_is in
@@ -50,7 +51,8 @@ name_makes s t root ps next u m layer q n d leads dir free k j v found node_is n
           let key : k ≡ c = cc in (
             subst (λ (x : ℕ). IsSome (t.nodes x)) key (ap is_some new),
             λ dir_c x out to. no_dir v j named (subst IsDirAt (ap t.nodes (sym key) ∙ new) dir_c),
-          ));
+          ))
+          (λ c some. inr (reached_out s root q n d m.table leads open_entry c (subst IsSome (nm.nodes c) some)));
       filed = record {
         placed = λ x c i to number. by_walk s t root q n d (Some (target.Inode k)) b x c to
             (λ out was. m.filed.placed x c i was (ap (option_and_then number_of) (sym (nm.nodes c)) ∙ number))
@@ -78,13 +80,14 @@ name_makes s t root ps next u m layer q n d leads dir free k j v found node_is n
     nil : (x : ℕ) → x ≡ x + 0
     nil x = omega arith
 
--- a directory's mode or mark set
-pub dir_set_makes : (s t : SlotView) (root : ℕ) (ps : Places) (next : ℕ) (u : Tree) → Makes s root ps next u → IsLayer u → (q : Names) (k m0 m1 : ℕ) (o0 o1 : Bool) → walk s.entries root q ≡ Some (target.Inode k) → at u q ≡ Some (node.Dir m0 o0) → Renodes s t k (node.Dir m1 o1) → Makes t root ps next (with_entry u q (node.Dir m1 o1))
+-- a directory's meta or mark set
+pub dir_set_makes : (s t : SlotView) (root : ℕ) (ps : Places) (next : ℕ) (u : Tree) → Makes s root ps next u → IsLayer u → (q : Names) (k : ℕ) (m0 m1 : Meta) (o0 o1 : Bool) → walk s.entries root q ≡ Some (target.Inode k) → at u q ≡ Some (node.Dir m0 o0) → Renodes s t k (node.Dir m1 o1) → Makes t root ps next (with_entry u q (node.Dir m1 o1))
 dir_set_makes s t root ps next u m layer q k m0 m1 o0 o1 leads is re = record {
   table = record {
     root_dir = elim (split_ℕ root k) [ inl same ↦ subst IsDirAt (sym (ap t.nodes same ∙ re.node)) refl | inr other ↦ subst IsDirAt (sym (re.nodes root other)) m.table.root_dir ];
     there = λ p c to. elim (split_ℕ c k) [ inl same ↦ subst IsSome (sym (ap t.nodes same ∙ re.node)) refl | inr other ↦ subst IsSome (sym (re.nodes c other)) (m.table.there p c (sym (walk_same p) ∙ to)) ];
     forest = λ p r c dir to_p to_r. m.table.forest p r c (elim (split_ℕ c k) [ inl same ↦ subst IsDirAt (sym (ap s.nodes same ∙ was)) refl | inr other ↦ subst IsDirAt (re.nodes c other) dir ]) (sym (walk_same p) ∙ to_p) (sym (walk_same r) ∙ to_r);
+    reached = λ c some. let y = m.table.reached c (elim (split_ℕ c k) [ inl same ↦ subst IsSome (sym (ap s.nodes same ∙ was)) refl | inr other ↦ subst IsSome (re.nodes c other) some ]) in (y.0, walk_same y.0 ∙ y.1);
   };
   filed = record {
     placed = λ p c i to number. elim (split_ℕ c k) [
@@ -117,13 +120,14 @@ dir_set_makes s t root ps next u m layer q k m0 m1 o0 o1 leads is re = record {
     names : (i : ℕ) → name_count i (with_entry u q (node.Dir m1 o1)).entries ≡ name_count i u.entries
     names i = omega (arith, name_count-insert_entry i u.entries q (node.Dir m1 o1) layer.sorted_paths, ap (weight (λ n. cond (has_number i n) 1 0)) is)
 
--- a file's content or mode set
+-- a file's content or meta set
 pub body_set_makes : (s t : SlotView) (root : ℕ) (ps : Places) (next : ℕ) (u : Tree) → Makes s root ps next u → (j k : ℕ) (b : Body) → place ps j ≡ Some k → s.nodes k ≡ Some (leaf_node j b) → Rebodies s t k b → Makes t root ps next (with_body u j b)
 body_set_makes s t root ps next u m j k b found kind re = record {
   table = record {
     root_dir = subst IsDirAt (sym (re.nodes root)) m.table.root_dir;
     there = λ p c to. subst IsSome (sym (re.nodes c)) (m.table.there p c (sym (walk_same p) ∙ to));
     forest = λ p r c dir to_p to_r. m.table.forest p r c (subst IsDirAt (re.nodes c) dir) (sym (walk_same p) ∙ to_p) (sym (walk_same r) ∙ to_r);
+    reached = λ c some. let y = m.table.reached c (subst IsSome (re.nodes c) some) in (y.0, walk_same y.0 ∙ y.1);
   };
   filed = record {
     placed = λ p c i to number. m.filed.placed p c i (sym (walk_same p) ∙ to) (ap (option_and_then number_of) (sym (re.nodes c)) ∙ number);
@@ -154,12 +158,12 @@ body_set_makes s t root ps next u m j k b found kind re = record {
         let leaf = m.filed.housed i c is in
         apart (some_same i j (sym (leaf_number i leaf.0) ∙ sym (ap (option_and_then number_of) leaf.2) ∙ ap (λ (y : ℕ). option_and_then number_of (s.nodes y)) same ∙ ap (option_and_then number_of) kind ∙ leaf_number j b)))
 
-pub dir_set_made : (s t : SlotView) (root : ℕ) (ps : Places) (next : ℕ) (u : Tree) → Makes s root ps next u → IsLayer u → (q : Names) (k mode : ℕ) (opaque : Bool) → walk s.entries root q ≡ Some (target.Inode k) → IsDirAt (at u q) → Renodes s t k (node.Dir mode opaque) → Makes t root ps next (with_entry u q (node.Dir mode opaque))
-dir_set_made s t root ps next u m layer q k mode opaque leads dir re = by (at u q) refl dir
+pub dir_set_made : (s t : SlotView) (root : ℕ) (ps : Places) (next : ℕ) (u : Tree) → Makes s root ps next u → IsLayer u → (q : Names) (k : ℕ) (meta : Meta) (opaque : Bool) → walk s.entries root q ≡ Some (target.Inode k) → IsDirAt (at u q) → Renodes s t k (node.Dir meta opaque) → Makes t root ps next (with_entry u q (node.Dir meta opaque))
+dir_set_made s t root ps next u m layer q k meta opaque leads dir re = by (at u q) refl dir
   where
-    by : (o : Option Node) → at u q ≡ o → IsDirAt o → Makes t root ps next (with_entry u q (node.Dir mode opaque))
+    by : (o : Option Node) → at u q ≡ o → IsDirAt o → Makes t root ps next (with_entry u q (node.Dir meta opaque))
     by None is dir_o = absurd dir_o
-    by (Some (node.Dir m0 o0)) is dir_o = dir_set_makes s t root ps next u m layer q k m0 mode o0 opaque leads is re
+    by (Some (node.Dir m0 o0)) is dir_o = dir_set_makes s t root ps next u m layer q k m0 meta o0 opaque leads is re
     by (Some (node.File j)) is dir_o = absurd (cc)
     by (Some (node.Symlink j)) is dir_o = absurd (cc)
     by (Some node.Whiteout) is dir_o = absurd (cc)
@@ -206,10 +210,10 @@ module _ (s : SlotView) (root : ℕ) (ps : Places) (next : ℕ) (u : Tree) (m : 
 
 -- ---- at a path
 
-pub name_made : (s t : SlotView) (root : ℕ) (ps : Places) (next : ℕ) (u : Tree) (path q : Names) (n : List ℕ) (d : ℕ) → Spot s root ps next u path q n d → IsFree (at u path) → (k j : ℕ) (b : Body) → place ps j ≡ Some k → body u j ≡ Some b → Gains s t d n k → Makes t root ps next (with_entry u path (leaf_node j b))
-name_made s t root ps next u path q n d spot free k j b found is gains =
+pub name_made : (s t : SlotView) (root : ℕ) (ps : Places) (next : ℕ) (u : Tree) (path q : Names) (n : List ℕ) (d : ℕ) → Spot s root ps next u path q n d → IsFree (at u path) → IsOpen (s.entries d n) → (k j : ℕ) (b : Body) → place ps j ≡ Some k → body u j ≡ Some b → Gains s t d n k → Makes t root ps next (with_entry u path (leaf_node j b))
+name_made s t root ps next u path q n d spot free open_entry k j b found is gains =
     subst (λ (p : Names). Makes t root ps next (with_entry u p (leaf_node j b))) (sym spot.splits)
-    (name_makes s t root ps next u spot.makes spot.layer q n d spot.leads spot.dir (subst (λ (p : Names). IsFree (at u p)) spot.splits free) k j (leaf_node j b) found (node_found s root ps next u spot.makes j k found b is) (leaf_number j b) gains)
+    (name_makes s t root ps next u spot.makes spot.layer q n d spot.leads spot.dir (subst (λ (p : Names). IsFree (at u p)) spot.splits free) open_entry k j (leaf_node j b) found (node_found s root ps next u spot.makes j k found b is) (leaf_number j b) gains)
 
 pub body_set_made : (s t : SlotView) (root : ℕ) (ps : Places) (next : ℕ) (u : Tree) → Makes s root ps next u → (j k : ℕ) (b : Body) → place ps j ≡ Some k → IsSome (body u j) → ((x : Body) → body u j ≡ Some x → leaf_node j x ≡ leaf_node j b) → Rebodies s t k b → Makes t root ps next (with_body u j b)
 body_set_made s t root ps next u m j k b found there kind re =

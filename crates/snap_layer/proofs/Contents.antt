@@ -128,7 +128,7 @@ pub record IsEdited (t : Tree) (k : ℕ) (b : Body) (e : Edit) : Type 0 where
   pub layer : IsLayer (with_body t k (body_edited b e))
 
 pub same_leaf : (k : ℕ) (x : Body) (e : Edit) → leaf_node k x ≡ leaf_node k (body_edited x e)
-same_leaf k (body_kinds.File mode content) e = refl
+same_leaf k (body_kinds.File meta content) e = refl
 same_leaf k (body_kinds.Symlink target) e = refl
 
 pub same_body : (x y : Body) → Some x ≡ Some y → x ≡ y
@@ -136,17 +136,17 @@ same_body x y e = cc
 
 pub file_edited : (t : Tree) → IsLayer t → (k : ℕ) (b : Body) (e : Edit) → body t k ≡ Some b → IsFile (Some b) → IsShort e (body_content (Some b)) → IsEdited t k b e
 file_edited t ok k (body_kinds.Symlink target) e is file short = absurd file
-file_edited t ok k (body_kinds.File mode old) e is file short = record {
-  kind = λ x there. ap (leaf_node k) (same_body x (body_kinds.File mode old) (sym there ∙ is));
-  layer = IsLayer-with_body t k (body_kinds.File mode (edited e old)) ok (subst IsFile (sym is) file) (file.0, edited_short e old short file.1);
+file_edited t ok k (body_kinds.File meta old) e is file short = record {
+  kind = λ x there. ap (leaf_node k) (same_body x (body_kinds.File meta old) (sym there ∙ is));
+  layer = IsLayer-with_body t k (body_kinds.File meta (edited e old)) ok (subst IsFile (sym is) file) (file.0, edited_short e old short file.1);
 }
 
 -- the file that is there, within its limits
 pub regular_there : (t : Tree) → IsLayer t → (k : ℕ) (o : Option Body) → body t k ≡ o → IsRegular o → IsFile o
 regular_there t ok k None is file = absurd file
-regular_there t ok k (Some (body_kinds.File mode content)) is file = subst IsFile is (file_there t ok k mode content is)
+regular_there t ok k (Some (body_kinds.File meta content)) is file = subst IsFile is (file_there t ok k meta content is)
 regular_there t ok k (Some (body_kinds.Symlink target)) is file = absurd file
 
 pub with_edited : (t : Tree) (k : ℕ) (b : Body) (e : Edit) → IsFile (Some b) → with_body t k (body_edited b e) ≡ with_filled t k (Some b) (edited e (body_content (Some b)))
-with_edited t k (body_kinds.File mode content) e file = refl
+with_edited t k (body_kinds.File meta content) e file = refl
 with_edited t k (body_kinds.Symlink target) e file = absurd file

@@ -1,5 +1,5 @@
 -- What stands at an entry replaced by a whiteout: a name of a file or symlink, or a directory that has whiteouts alone.
-use Rattle.std.proofs.Common.{◌≡◌, ℕ, ◌+◌, Bool, true, false, cond, List, [], ◌∷◌, ◌++◌, Option, Some, None, IsSome, refl, sym, ap, subst, ◌∙◌, inl, inr, arith, append-nil}
+use Rattle.std.proofs.Common.{◌≡◌, ℕ, ◌+◌, Bool, true, false, cond, List, [], ◌∷◌, ◌++◌, Option, Some, None, IsSome, refl, sym, ap, subst, ◌∙◌, inl, inr, arith, append_assoc, append-nil}
 use Rattle.std.specs.Prelude.{option_and_then, is_some, ◌==◌}
 use Rattle.std.specs.Ordering.{nat_cmp}
 use Rattle.std.specs.Cmp.{nat_cmp_total}
@@ -20,7 +20,7 @@ use Rattle.snap_layer.specs.Layers.{IsLayer}
 use Rattle.snap_layer.specs.Edits.{with_entry, with_node, without, outside, inside, bodies_without, HasPlace, IsTakeable, IsFree}
 use Rattle.snap_layer.proofs.Lists.{lookup-remove_entry, lookup-filter, sorted-remove_entry, same_lists, sorted-insert_entry, sorted-filter, sum_by-filter}
 use Rattle.snap_layer.proofs.Paths.{begins_itself, begins_from, split_front, path_cmp_total, path_cmp-IsAntisymmetric}
-use Rattle.snap_layer.proofs.Looks.{split_number, Sets-with_entry, no_name_at, has_its_number, name_found}
+use Rattle.snap_layer.proofs.Looks.{split_number, Sets-with_entry, at-without_inside, no_name_at, has_its_number, name_found}
 use Rattle.snap_layer.proofs.Counting.{weight, name_count-insert_entry}
 use Rattle.snap_layer.proofs.Kept.{nothing_below, no_number_below, dir_has_no_number, free_has_no_number}
 use Rattle.snap_layer.proofs.Replacing.{other_name, at_taken}
@@ -29,12 +29,12 @@ use Rattle.snap_layer.proofs.Moves.{sorted-without}
 use Rattle.snap_layer.proofs.Moving.{found_inside}
 use Rattle.snap_layer.specs.declared.inode.Target.{Target}
 use Rattle.snap_layer.specs.declared.inode.Target.TheVariants as target
-use Rattle.snap_layer.specs.Walk.{SlotView, walk, node_shown, Table, IsTable, IsBare, Puts, Links, Same, Frees, Releases, Drops, LeavesWhiteout}
+use Rattle.snap_layer.specs.Walk.{SlotView, walk, node_shown, Table, IsTable, IsBare, IsOpen, Puts, Links, Same, Frees, Releases, Drops, LeavesWhiteout}
 use Rattle.snap_layer.specs.Holds.{Places, place}
 use Rattle.snap_layer.proofs.Frames.{split_ℕ, walk_push}
 use Rattle.snap_layer.proofs.Makes.{Makes}
-use Rattle.snap_layer.proofs.Beside.{Beside, Leaves, by_walk, table, shows, parent_stays, way_out}
-use Rattle.snap_layer.proofs.Putting.{Spot, puts_out, links_beside, makes_same, filed_keep, bodies_keep}
+use Rattle.snap_layer.proofs.Beside.{Beside, Leaves, AllLeft, by_walk, open_out, table, shows, parent_stays, way_out}
+use Rattle.snap_layer.proofs.Putting.{Spot, puts_out, links_beside, links_left, free_open, makes_same, filed_keep, bodies_keep}
 use Rattle.snap_layer.proofs.Files.{leaf_number, free_names}
 
 no_some : {A : Type 0} (x : A) → None ≡ Some x → ⊥
@@ -45,6 +45,12 @@ some_same x y e = cc
 
 no_bool : true ≡ false → ⊥
 no_bool e = cc
+
+key_same : (x y : ℕ) → Some (target.Inode x) ≡ Some (target.Inode y) → x ≡ y
+key_same x y e = cc
+
+gone_node : {o : Option Node} → o ≡ None → IsSome o → ⊥
+gone_node e some = cc
 
 abbrev one_if : Bool → ℕ
 one_if b = cond b 1 0
@@ -128,6 +134,7 @@ pub record Covered (s t : SlotView) (root : ℕ) (qs : Places) (next : ℕ) (w :
   pub ways : (x : Names) (c : ℕ) → begins (q ++ n ∷ []) x ≡ false → walk s.entries root x ≡ Some (target.Inode c) → (walk t.entries root x ≡ Some (target.Inode c)) × (t.nodes c ≡ s.nodes c)
   pub leads : walk t.entries root q ≡ Some (target.Inode d)
   pub dir : IsDirAt (t.nodes d)
+  pub entry : IsOpen (t.entries d n)
 
 -- a layer without what stood at the path of another, which has there what an entry without an inode shows
 pub record Left (u w : Tree) (p : Names) (o : Option Target) : Type 0 where
@@ -158,6 +165,11 @@ bare_closed : (e : Table) (o : Option Target) → ((c : ℕ) → o ≡ Some (tar
 bare_closed e None closed = tt
 bare_closed e (Some target.Whiteout) closed = tt
 bare_closed e (Some (target.Inode c)) closed = absurd (closed c refl)
+
+open_closed : (o : Option Target) → ((c : ℕ) → o ≡ Some (target.Inode c) → ⊥) → IsOpen o
+open_closed None closed = tt
+open_closed (Some target.Whiteout) closed = tt
+open_closed (Some (target.Inode c)) closed = absurd (closed c refl)
 
 plain_closed : (nodes : ℕ → Option Node) (o : Option Target) → ((c : ℕ) → o ≡ Some (target.Inode c) → ⊥) → option_and_then number_of (node_shown nodes o) ≡ None
 plain_closed nodes None closed = refl
@@ -232,6 +244,51 @@ module _ (s t : SlotView) (root : ℕ) (ps qs : Places) (next : ℕ) (u : Tree) 
     leaves : Leaves u w pn (node_shown t.nodes o)
     leaves = left.leaves t.nodes
 
+    -- nothing stands below a file or symlink
+    below_leaf : (x : Names) (c : ℕ) → walk s.entries root x ≡ Some (target.Inode c) → begins pn x ≡ true → c ≡ k
+    below_leaf x c to within = elim (split_front pn x) [ inr out ↦ absurd (no_bool (sym within ∙ out.0)) | inl front ↦ by front.1 front.2 ]
+      where
+        no_node : IsSome {T = Node} None → ⊥
+        no_node e = cc
+
+        by : (r : Names) → x ≡ pn ++ r → c ≡ k
+        by [] same = key_same c k (sym to ∙ ap (walk s.entries root) (same ∙ append-nil pn) ∙ to_k)
+        by (y ∷ r) same =
+            absurd (no_node (subst IsSome (sym (ap (node_shown s.nodes) to) ∙ m.shows x ∙ ap (at u) same ∙ nothing_below u layer pn (λ dir_v. no_dir v j named (subst IsDirAt is dir_v)) y r) (m.table.there x c to)))
+
+    -- where names are left one of them leads to the inode
+    other_path : (name_count j w.entries ≡ 0 → ⊥) → (x : Names) × (begins pn x ≡ false) × (walk s.entries root x ≡ Some (target.Inode k))
+    other_path some =
+        let f = name_found j (without u pn).entries (sorted-without u pn layer.sorted_paths) (λ none. some (left.names j ∙ none)) in
+        by f.0 f.1 f.2 f.3
+      where
+        by : (x : Names) (y : Node) → at (without u pn) x ≡ Some y → number_of y ≡ Some j → (x : Names) × (begins pn x ≡ false) × (walk s.entries root x ≡ Some (target.Inode k))
+        by x y there number = elim (split_front pn x) [
+          | inl within ↦ absurd (no_some y (sym (at-without_inside u pn x within.0) ∙ there))
+          | inr out ↦ (x, out.0, to_leaf (sym ((Takes-without u pn).others x out.0) ∙ there))
+        ]
+          where
+            shown : (o : Option Target) → node_shown s.nodes o ≡ Some y → (c : ℕ) × (o ≡ Some (target.Inode c)) × (s.nodes c ≡ Some y)
+            shown None e = absurd (no_some y e)
+            shown (Some target.Whiteout) e = absurd (no_some j (ap (option_and_then number_of) e ∙ number))
+            shown (Some (target.Inode c)) e = (c, refl, e)
+
+            to_leaf : at u x ≡ Some y → walk s.entries root x ≡ Some (target.Inode k)
+            to_leaf there_u =
+                let c = shown (walk s.entries root x) (m.shows x ∙ there_u) in
+                c.1 ∙ ap (λ (z : ℕ). Some (target.Inode z)) (some_same c.0 k (sym (m.filed.placed x c.0 j c.1 (ap (option_and_then number_of) c.2 ∙ number)) ∙ place_is))
+
+    all_left : AllLeft s t root q n d o beside
+    all_left c some = elim (split_ℕ c k) [
+      | inl same ↦ elim (split_ℕ (name_count j w.entries) 0) [
+        | inl none ↦ absurd (gone_node (frees.last_slot j number_b (omega (arith, counts_b, none))) (subst (λ (y : ℕ). IsSome (t.nodes y)) same some))
+        | inr more ↦ let x = other_path more in inr (x.0, x.1, x.2 ∙ ap (λ (y : ℕ). Some (target.Inode y)) (sym same))
+      ]
+      | inr other ↦
+          let x = m.table.reached c (subst IsSome (frees.nodes c other ∙ links.nodes c) some) in
+          elim (split_front pn x.0) [ inl within ↦ absurd (other (below_leaf x.0 c x.1 within.0)) | inr out ↦ inr (x.0, out.0, x.1) ]
+    ]
+
     -- another number's place has another key
     other_key : (i c : ℕ) → (i ≡ j → ⊥) → place ps i ≡ Some c → c ≡ k → ⊥
     other_key i c apart found same =
@@ -260,7 +317,7 @@ module _ (s t : SlotView) (root : ℕ) (ps qs : Places) (next : ℕ) (u : Tree) 
         let node_same : (c : ℕ) → t.nodes c ≡ s.nodes c = λ c. elim (split_ℕ c k) [ inl same ↦ ap t.nodes same ∙ more.0 ∙ links.nodes k ∙ sym (ap s.nodes same) | inr other ↦ frees.nodes c other ∙ links.nodes c ] in
         let bodies : w.bodies ≡ u.bodies = tested false (not_zero (λ e. some (left.names j ∙ e))) in
         subst (λ (x : Places). Makes t root x next w) (sym more.3) (record {
-          table = table s t root q n d o beside m.table (λ c e. absurd (closed c e));
+          table = table s t root q n d o beside m.table (λ c e. absurd (closed c e)) all_left;
           filed = record {
             placed = λ x c i to number. by_walk s t root q n d o beside x c to (λ out was. m.filed.placed x c i was (ap (option_and_then number_of) (sym (node_same c)) ∙ number)) (λ e f. absurd (closed c f));
             housed = λ i c found. let leaf = m.filed.housed i c found in (leaf.0, body_same c ∙ leaf.1, node_same c ∙ leaf.2);
@@ -289,7 +346,7 @@ module _ (s t : SlotView) (root : ℕ) (ps qs : Places) (next : ℕ) (u : Tree) 
         let gone = frees.last j number_b (omega (arith, counts_b, none)) in
         let bodies : w.bodies ≡ remove_entry (is_at (nat_cmp j)) u.bodies = tested true (is_zero (sym (left.names j) ∙ none)) in
         subst (λ (x : Places). Makes t root x next w) (sym gone) (record {
-          table = table s t root q n d o beside m.table (λ c e. absurd (closed c e));
+          table = table s t root q n d o beside m.table (λ c e. absurd (closed c e)) all_left;
           filed = record {
             placed = λ x c i to number. by_walk s t root q n d o beside x c to
                 (λ out was.
@@ -330,10 +387,10 @@ module _ (s t : SlotView) (root : ℕ) (ps qs : Places) (next : ℕ) (u : Tree) 
     pub leaf_covered : Covered s t root qs next w q n d
     leaf_covered =
         let stays = parent_stays s t root q n d o beside dir in
-        record { makes = elim (split_ℕ (name_count j w.entries) 0) [ inl none ↦ none_left none | inr some ↦ some_left some ]; ways = way_out s t root q n d o beside; leads = stays.0; dir = stays.1 }
+        record { makes = elim (split_ℕ (name_count j w.entries) 0) [ inl none ↦ none_left none | inr some ↦ some_left some ]; ways = way_out s t root q n d o beside; leads = stays.0; dir = stays.1; entry = subst IsOpen (sym entries.here) (open_closed o closed) }
 
   -- ---- a directory that has whiteouts alone
-  module _ (dir_k : IsDirAt (s.nodes k)) (clear : (y : List ℕ) → IsFree (at u (pn ++ y ∷ []))) where
+  module _ (dir_k : IsDirAt (s.nodes k)) (clear : (y : List ℕ) → IsFree (at u (pn ++ y ∷ []))) (plain : (c : ℕ) → s.nodes c ≡ Some node.Whiteout → ⊥) where
     only : (x : Names) (c : ℕ) → walk s.entries root x ≡ Some (target.Inode c) → c ≡ k → x ≡ pn
     only x c to same = m.table.forest x pn k dir_k (to ∙ ap (λ (y : ℕ). Some (target.Inode y)) same) to_k
 
@@ -357,6 +414,24 @@ module _ (s t : SlotView) (root : ℕ) (ps qs : Places) (next : ℕ) (u : Tree) 
     beside_dir : Beside s t root q n d o
     beside_dir = record { leads = leads; entries = entries_out; here = frees.entries d n d_is ∙ links.entries.here; bare = bare_closed t.entries o closed; nodes = λ x c to out. frees.nodes c (not_k x c to out) ∙ links.nodes c }
 
+    -- no path to an inode goes through the directory
+    below_dir : (x : Names) (c : ℕ) → walk s.entries root x ≡ Some (target.Inode c) → begins pn x ≡ true → c ≡ k
+    below_dir x c to within = elim (split_front pn x) [ inr out ↦ absurd (no_bool (sym within ∙ out.0)) | inl front ↦ by front.1 front.2 ]
+      where
+        by : (r : Names) → x ≡ pn ++ r → c ≡ k
+        by [] same = key_same c k (sym to ∙ ap (walk s.entries root) (same ∙ append-nil pn) ∙ to_k)
+        by (y ∷ r) same =
+            let out = open_out s root pn y k to_k (free_open s root ps next u m pn y k to_k (clear y) plain) x c to in
+            absurd (no_bool (sym (begins_from (pn ++ y ∷ []) x r (same ∙ sym (append_assoc pn (y ∷ []) r))) ∙ out))
+
+    all_left_dir : AllLeft s t root q n d o beside_dir
+    all_left_dir c some = elim (split_ℕ c k) [
+      | inl same ↦ absurd (gone_node (frees.dir_slot number_none) (subst (λ (y : ℕ). IsSome (t.nodes y)) same some))
+      | inr other_c ↦
+          let x = m.table.reached c (subst IsSome (frees.nodes c other_c ∙ links.nodes c) some) in
+          elim (split_front pn x.0) [ inl within ↦ absurd (other_c (below_dir x.0 c x.1 within.0)) | inr out ↦ inr (x.0, out.0, x.1) ]
+    ]
+
     leaves_dir : Leaves u w pn (node_shown t.nodes o)
     leaves_dir = left.leaves t.nodes
 
@@ -373,7 +448,7 @@ module _ (s t : SlotView) (root : ℕ) (ps qs : Places) (next : ℕ) (u : Tree) 
 
     dir_makes : Makes t root qs next w
     dir_makes = subst (λ (x : Places). Makes t root x next w) (sym (frees.dir number_none)) (record {
-      table = table s t root q n d o beside_dir m.table (λ c e. absurd (closed c e));
+      table = table s t root q n d o beside_dir m.table (λ c e. absurd (closed c e)) all_left_dir;
       filed = filed_keep s t root q n d o beside_dir ps u w m.filed stay_dir (λ i. left.names i ∙ names_beside u layer pn at_none clear i) (plain_closed t.nodes o closed);
       shows = shows s t root q n d o beside_dir u w m.shows leaves_dir;
       bodies = λ i. bodies_keep s t root q n d o beside_dir ps u u m.filed stay_dir m.bodies i ∙ ap (lookup (is_at (nat_cmp i))) (sym bodies_dir);
@@ -383,7 +458,7 @@ module _ (s t : SlotView) (root : ℕ) (ps qs : Places) (next : ℕ) (u : Tree) 
     pub dir_covered : Covered s t root qs next w q n d
     dir_covered =
         let stays = parent_stays s t root q n d o beside_dir dir in
-        record { makes = dir_makes; ways = way_out s t root q n d o beside_dir; leads = stays.0; dir = stays.1 }
+        record { makes = dir_makes; ways = way_out s t root q n d o beside_dir; leads = stays.0; dir = stays.1; entry = subst IsOpen (sym (frees.entries d n d_is ∙ links.entries.here)) (open_closed o closed) }
 
 -- ---- whatever stands there
 
@@ -413,7 +488,7 @@ drops_makes s t root ps qs next u m layer q n d leads dir clear there plain x cl
     nothing e = cc
 
     by_node : (k : ℕ) (v : Node) → s.entries d n ≡ Some (target.Inode k) → s.nodes k ≡ Some v → Frees b t ps qs k → Covered s t root qs next w q n d
-    by_node k (node.Dir mode o) is at_k frees = dir_covered s t root ps qs next u m layer q n d leads dir k is b x closed drops.links frees w left (subst IsDirAt (sym at_k) refl) clear
+    by_node k (node.Dir meta o) is at_k frees = dir_covered s t root ps qs next u m layer q n d leads dir k is b x closed drops.links frees w left (subst IsDirAt (sym at_k) refl) clear plain
     by_node k (node.File j) is at_k frees = leaf_covered s t root ps qs next u m layer q n d leads dir k is b x closed drops.links frees w left j (node.File j) at_k refl
     by_node k (node.Symlink j) is at_k frees = leaf_covered s t root ps qs next u m layer q n d leads dir k is b x closed drops.links frees w left j (node.Symlink j) at_k refl
     by_node k node.Whiteout is at_k frees = absurd (plain k at_k)
@@ -426,7 +501,7 @@ drops_makes s t root ps qs next u m layer q n d leads dir clear there plain x cl
         let stay : (j c : ℕ) → place ps j ≡ Some c → (b.nodes c ≡ s.nodes c) × (b.bodies c ≡ s.bodies c) × (b.counts c ≡ s.counts c) = λ j c at_j. (drops.links.nodes c, drops.links.bodies c, drops.links.counts c) in
         let bodies : w.bodies ≡ u.bodies = left.bodies ∙ ap (λ y. bodies_without y (without u pn).entries u.bodies) (free_has_no_number (at u pn) free) in
         let put : Makes b root ps next w = record {
-          table = table s b root q n d x beside m.table (λ c e. absurd (closed c e));
+          table = table s b root q n d x beside m.table (λ c e. absurd (closed c e)) (links_left s b root q n d m.table leads dir x closed drops.links (subst IsOpen (sym is) tt));
           filed = filed_keep s b root q n d x beside ps u w m.filed stay (λ i. left.names i ∙ free_names u layer pn free i) (plain_closed b.nodes x closed);
           shows = shows s b root q n d x beside u w m.shows (left.leaves b.nodes);
           bodies = λ i. bodies_keep s b root q n d x beside ps u u m.filed stay m.bodies i ∙ ap (lookup (is_at (nat_cmp i))) (sym bodies);
@@ -438,6 +513,7 @@ drops_makes s t root ps qs next u m layer q n d leads dir clear there plain x cl
           ways = λ y c out to. let was = way_out s b root q n d x beside y c out to in (ap (λ f. walk f root y) (λ i e z. same.entries e z i) ∙ was.0, same.nodes c ∙ was.1);
           leads = ap (λ f. walk f root q) (λ i c y. same.entries c y i) ∙ stays.0;
           dir = subst IsDirAt (sym (same.nodes d)) stays.1;
+          entry = subst IsOpen (sym (same.entries d n ∙ drops.links.entries.here)) (open_closed x closed);
         }
 
     by : (o : Option Target) → s.entries d n ≡ o → Releases b t ps qs o → Covered s t root qs next w q n d

@@ -22,7 +22,7 @@ use Rattle.snap_layer.proofs.Replacing.{clears_place, IsLayer-with_node, inode_c
 use Rattle.snap_layer.proofs.Laws.{without-with_entry}
 use Rattle.snap_layer.specs.declared.inode.Target.{Target}
 use Rattle.snap_layer.specs.declared.inode.Target.TheVariants as target
-use Rattle.snap_layer.specs.Walk.{SlotView, walk, node_shown, Links, Raises, Gains, Same, Frees, Releases, Adds, Enters}
+use Rattle.snap_layer.specs.Walk.{SlotView, walk, node_shown, IsOpen, Links, Raises, Gains, Same, Frees, Releases, Adds, Enters}
 use Rattle.snap_layer.specs.Walk as tables
 use Rattle.snap_layer.proofs.Slots.{puts_other}
 use Rattle.snap_layer.specs.Holds.{Places, place}
@@ -232,10 +232,10 @@ entered_made s t root ps qs next u path q n d spot fits is_path plain b whole en
     count = omega (arith, inode_count-with_node u path node.Whiteout spot.layer, inode_count-with_new u path v b spot.layer (leaf_number u.next b))
 
     -- over a free place of a layer
-    over : (w : Tree) → Makes e.cleared root e.left next w → IsLayer w → w.next ≡ u.next → IsFree (at w pn) → walk e.cleared.entries root q ≡ Some (target.Inode d) → IsDirAt (e.cleared.nodes d) → Makes t root qs (next + 1) (with_new w pn (leaf_node w.next b) b)
-    over w m layer same free leads dir =
+    over : (w : Tree) → Makes e.cleared root e.left next w → IsLayer w → w.next ≡ u.next → IsFree (at w pn) → IsOpen (e.cleared.entries d n) → walk e.cleared.entries root q ≡ Some (target.Inode d) → IsDirAt (e.cleared.nodes d) → Makes t root qs (next + 1) (with_new w pn (leaf_node w.next b) b)
+    over w m layer same free open_entry leads dir =
         let numbered : next ≡ w.next = m.last in
-        let made = leaf_makes e.cleared root e.left next w m layer t q n d leads dir free e.key (next + 1) b (subst (λ (x : ℕ). Adds e.cleared t d n e.key (leaf_node x b) (Some b) 1) (sym same) e.adds) (leaf_number w.next b) (ap (λ (x : ℕ). x + 1) numbered) in
+        let made = leaf_makes e.cleared root e.left next w m layer t q n d leads dir free open_entry e.key (next + 1) b (subst (λ (x : ℕ). Adds e.cleared t d n e.key (leaf_node x b) (Some b) 1) (sym same) e.adds) (leaf_number w.next b) (ap (λ (x : ℕ). x + 1) numbered) in
         subst (λ (x : Places). Makes t root x (next + 1) (with_new w pn (leaf_node w.next b) b)) (sym (e.places ∙ ap (λ (x : ℕ). insert_entry nat_cmp e.left x e.key) numbered)) made
 
     nothing : IsSome {T = Target} None → ⊥
@@ -247,14 +247,14 @@ entered_made s t root ps qs next u path q n d spot fits is_path plain b whole en
         let free : IsFree (at u pn) = subst IsFree (sym (ap (at u) (sym spot.splits) ∙ none)) tt in
         let way : walk e.cleared.entries root q ≡ Some (target.Inode d) = ap (λ f. walk f root q) (λ i c m. same.0.entries c m i) ∙ spot.leads in
         subst (λ (p : Names). Makes t root qs (next + 1) (with_new u p v b)) (sym spot.splits)
-        (over u (makes_same s e.cleared root same.0 ps e.left next u same.1 spot.makes) spot.layer refl free way (subst IsDirAt (sym (same.0.nodes d)) spot.dir))
+        (over u (makes_same s e.cleared root same.0 ps e.left next u same.1 spot.makes) spot.layer refl free (subst IsOpen (sym (same.0.entries d n ∙ is)) tt) way (subst IsDirAt (sym (same.0.nodes d)) spot.dir))
     by (Some x) is covers =
         let there : IsSome (at u path) = stands x is in
         let w = with_node u path node.Whiteout in
         let m = covered s e.cleared root ps e.left next u path q n d spot fits there plain covers in
         let layer : IsLayer w = IsLayer-with_node u path node.Whiteout spot.layer fits is_path tt (subst (λ (z : ℕ). z ≤ u.most) (sym count) whole.few) in
         let here : at w pn ≡ Some node.Whiteout = ap (at w) (sym spot.splits) ∙ (Sets-with_entry (without u path) path node.Whiteout).here in
-        let made = over w m.makes layer refl (subst IsFree (sym here) refl) m.leads m.dir in
+        let made = over w m.makes layer refl (subst IsFree (sym here) refl) m.entry m.leads m.dir in
         subst (λ (z : Tree). Makes t root qs (next + 1) z) (ap (λ (p : Names). with_new w p v b) (sym spot.splits) ∙ covered_new u spot.layer path v b fits) made
       where
         stands : (y : Target) → s.entries d n ≡ Some y → IsSome (at u path)

@@ -21,7 +21,7 @@ use Rattle.snap_layer.proofs.Moves.{apart_below, not_of_parent, HasParent-withou
 use Rattle.snap_layer.proofs.Replacing.{clears_place, with_node-free, without_nothing}
 use Rattle.snap_layer.specs.declared.inode.Target.{Target}
 use Rattle.snap_layer.specs.declared.inode.Target.TheVariants as target
-use Rattle.snap_layer.specs.Walk.{SlotView, Table, walk, node_shown, Links, Frees, Releases, Drops, LeavesWhiteout, Gains, Shifted, Renames, Relocates}
+use Rattle.snap_layer.specs.Walk.{SlotView, Table, walk, node_shown, IsOpen, Links, Frees, Releases, Drops, LeavesWhiteout, Gains, Shifted, Renames, Relocates}
 use Rattle.snap_layer.specs.Walk as tables
 use Rattle.snap_layer.specs.Holds.{Places, place}
 use Rattle.snap_layer.proofs.Frames.{split_ℕ, split_name, walk_push}
@@ -186,7 +186,7 @@ whitened_made s t root ps qs next u path q n d spot fits plain covers = by (s.en
     by None at_o =
         let free : IsFree (at u path) = subst IsFree (sym (nothing_there s root ps next u path q n d spot.makes spot.splits spot.leads at_o)) tt in
         let same = subst (Releases covers.between t ps qs) at_o covers.releases in
-        let made = white_made s covers.between root ps next u path q n d spot free covers.links in
+        let made = white_made s covers.between root ps next u path q n d spot free (subst IsOpen (sym at_o) tt) covers.links in
         subst (λ (z : Tree). Makes t root qs next z) (sym (with_node-free u spot.layer path node.Whiteout free)) (makes_same covers.between t root same.0 ps qs next (with_entry u path node.Whiteout) same.1 made)
     by (Some y) at_o = covered_made s t root ps qs next u path q n d spot fits (shown s root ps next u path q n d spot y at_o) plain covers
 
@@ -207,14 +207,14 @@ renamed_made s t root ps qs next u path q n d spot fits plain j k b apart found 
         let m = makes_same s re.cleared root same.0 ps qs next u same.1 spot.makes in
         let way : walk re.cleared.entries root q ≡ Some (target.Inode d) = ap (λ f. walk f root q) (λ i c y. same.0.entries c y i) ∙ spot.leads in
         let here : Spot re.cleared root qs next u path q n d = record { makes = m; layer = spot.layer; splits = spot.splits; leads = way; dir = subst IsDirAt (sym (same.0.nodes d)) spot.dir } in
-        let made = name_made re.cleared t root qs next u path q n d here (subst IsFree (sym none) tt) k j b (ap (λ (z : Places). place z j) same.1 ∙ found) is re.gains in
+        let made = name_made re.cleared t root qs next u path q n d here (subst IsFree (sym none) tt) (subst IsOpen (sym (same.0.entries d n ∙ at_o)) tt) k j b (ap (λ (z : Places). place z j) same.1 ∙ found) is re.gains in
         subst (λ (z : Tree). Makes t root qs next (with_entry z path (leaf_node j b))) (sym (without_nothing u spot.layer path none)) made
     by (Some y) at_o covers =
         let drops = erase_covers d n s re.cleared ps qs covers in
         let c = dropped_made s (erase re.cleared d n) root ps qs next u path q n d spot fits.clear (shown s root ps next u path q n d spot y at_o) plain None nothing_closed (without u path) (left_taken u path) drops in
         let here : Spot (erase re.cleared d n) root qs next (without u path) path q n d = record { makes = c.makes; layer = layer; splits = spot.splits; leads = c.leads; dir = c.dir } in
         let kept = clears_place_of s re.cleared ps qs d n j k spot.makes.filed.sorted (λ e. apart (sym (spot_number s root ps next u path q n d spot) ∙ e)) found re.clears in
-        name_made (erase re.cleared d n) t root qs next (without u path) path q n d here (subst IsFree (sym gone) tt) k j b kept left (erase_gains d n re.cleared t k re.gains)
+        name_made (erase re.cleared d n) t root qs next (without u path) path q n d here (subst IsFree (sym gone) tt) (subst IsOpen (sym (erased_here re.cleared.entries d n)) tt) k j b kept left (erase_gains d n re.cleared t k re.gains)
 
 -- a subtree moved in place of what stood at a path
 pub relocated_made : (s t : SlotView) (root : ℕ) (ps qs : Places) (next : ℕ) (u : Tree) (from to qf : Names) (nf : List ℕ) (df : ℕ) (qt : Names) (nt : List ℕ) (dt : ℕ) (leaves : Bool) → Spot s root ps next u from qf nf df → Spot s root ps next u to qt nt dt
@@ -251,7 +251,7 @@ relocated_made s t root ps qs next u from to qf nf df qt nt dt leaves one two mo
         let way : (x : Names) → walk re.cleared.entries root x ≡ walk s.entries root x = λ x. ap (λ f. walk f root x) (λ i c y. same.0.entries c y i) in
         let first : Spot re.cleared root qs next u from qf nf df = record { makes = m; layer = one.layer; splits = one.splits; leads = way qf ∙ one.leads; dir = subst IsDirAt (sym (same.0.nodes df)) one.dir } in
         let second : Spot re.cleared root qs next u to qt nt dt = record { makes = m; layer = two.layer; splits = two.splits; leads = way qt ∙ two.leads; dir = subst IsDirAt (sym (same.0.nodes dt)) two.dir } in
-        moved_made re.cleared t root qs next u from to qf nf df qt nt dt leaves first second movable (subst IsFree (sym none) tt) re.shifted
+        moved_made re.cleared t root qs next u from to qf nf df qt nt dt leaves first second movable (subst IsFree (sym none) tt) (subst IsOpen (sym (same.0.entries dt nt ∙ at_o)) tt) re.shifted
     by (Some y) at_o covers =
         let drops = erase_covers dt nt s re.cleared ps qs covers in
         let state = erase re.cleared dt nt in
@@ -261,7 +261,7 @@ relocated_made s t root ps qs next u from to qf nf df qt nt dt leaves one two mo
         let first : Spot state root qs next (without u to) from qf nf df = record { makes = c.makes; layer = layer; splits = one.splits; leads = way.0; dir = subst IsDirAt (sym way.1) one.dir } in
         let second : Spot state root qs next (without u to) to qt nt dt = record { makes = c.makes; layer = layer; splits = two.splits; leads = c.leads; dir = c.dir } in
         subst (λ (z : Tree). Makes t root qs next z) again
-        (moved_made state t root qs next (without u to) from to qf nf df qt nt dt leaves first second movable_left (subst IsFree (sym gone) tt) (erase_shifted dt nt re.cleared t df nf leaves apart re.shifted))
+        (moved_made state t root qs next (without u to) from to qf nf df qt nt dt leaves first second movable_left (subst IsFree (sym gone) tt) (subst IsOpen (sym (erased_here re.cleared.entries dt nt)) tt) (erase_shifted dt nt re.cleared t df nf leaves apart re.shifted))
 
 -- ---- what an entry is not
 

@@ -25,12 +25,12 @@ use Rattle.snap_layer.proofs.Replacing.{with_node-free, other_name, at_taken}
 use Rattle.snap_layer.proofs.Laws.{SetsBody-with_new}
 use Rattle.snap_layer.proofs.Moves.{name_count-with_moved, sorted-without}
 use Rattle.snap_layer.specs.declared.inode.Target.TheVariants as target
-use Rattle.snap_layer.specs.Walk.{SlotView, walk, node_shown, stands, Adds, Shifted}
+use Rattle.snap_layer.specs.Walk.{SlotView, walk, node_shown, stands, IsOpen, Adds, Shifted}
 use Rattle.snap_layer.specs.Holds.{Places, place, IsLeafOf}
 use Rattle.snap_layer.proofs.Frames.{split_ℕ, walk_push}
 use Rattle.snap_layer.proofs.Makes.{Makes}
 use Rattle.snap_layer.proofs.Beside.{Beside, Leaves, by_walk, table, shows}
-use Rattle.snap_layer.proofs.Putting.{Spot, adds_beside, adds_fresh, not_new, entry_leaves, entry_names, housed_some}
+use Rattle.snap_layer.proofs.Putting.{Spot, adds_beside, adds_fresh, adds_left, not_new, entry_leaves, entry_names, housed_some}
 use Rattle.snap_layer.proofs.Shifting as shifting
 use Rattle.snap_layer.proofs.Shifting.{shifts}
 
@@ -66,10 +66,10 @@ module _ (s : SlotView) (root : ℕ) (ps : Places) (next : ℕ) (u : Tree) (m : 
       none e = cc
 
   -- a new file or symlink over a free place
-  pub leaf_makes : (t : SlotView) (q : Names) (n : List ℕ) (d : ℕ) → walk s.entries root q ≡ Some (target.Inode d) → IsDirAt (s.nodes d) → IsFree (at u (q ++ n ∷ []))
+  pub leaf_makes : (t : SlotView) (q : Names) (n : List ℕ) (d : ℕ) → walk s.entries root q ≡ Some (target.Inode d) → IsDirAt (s.nodes d) → IsFree (at u (q ++ n ∷ [])) → IsOpen (s.entries d n)
       → (k last : ℕ) (b : Body) → Adds s t d n k (leaf_node u.next b) (Some b) 1 → number_of (leaf_node u.next b) ≡ Some u.next → last ≡ u.next + 1 → Makes t root (insert_entry nat_cmp ps u.next k) last (with_new u (q ++ n ∷ []) (leaf_node u.next b) b)
-  leaf_makes t q n d leads dir free k last b adds named after = record {
-    table = table s t root q n d (Some (target.Inode k)) beside m.table (adds_fresh s t root q n d m.table leads dir k v (Some b) 1 adds);
+  leaf_makes t q n d leads dir free open_entry k last b adds named after = record {
+    table = table s t root q n d (Some (target.Inode k)) beside m.table (adds_fresh s t root q n d m.table leads dir k v (Some b) 1 adds) (adds_left s t root q n d m.table leads dir k v (Some b) 1 adds open_entry);
     filed = record {
       placed = λ x c j to number. by_walk s t root q n d (Some (target.Inode k)) beside x c to
           (λ out was. kept_place j c (m.filed.placed x c j was (ap (option_and_then number_of) (sym (beside.nodes x c was out)) ∙ number)))
@@ -172,14 +172,14 @@ bodies_moved u from to false free = ap (λ o. bodies_without o (outside to u.ent
 -- a subtree moved to a free place
 pub shift_makes : (s t : SlotView) (root : ℕ) (ps : Places) (next : ℕ) (u : Tree) → Makes s root ps next u → IsLayer u → (qf : Names) (nf : List ℕ) (df : ℕ) (qt : Names) (nt : List ℕ) (dt : ℕ) (leaves : Bool)
     → walk s.entries root qf ≡ Some (target.Inode df) → walk s.entries root qt ≡ Some (target.Inode dt) → IsDirAt (s.nodes df) → IsDirAt (s.nodes dt)
-    → begins (qf ++ nf ∷ []) (qt ++ nt ∷ []) ≡ false → begins (qt ++ nt ∷ []) (qf ++ nf ∷ []) ≡ false → IsFree (at u (qt ++ nt ∷ []))
+    → begins (qf ++ nf ∷ []) (qt ++ nt ∷ []) ≡ false → begins (qt ++ nt ∷ []) (qf ++ nf ∷ []) ≡ false → IsFree (at u (qt ++ nt ∷ [])) → IsOpen (s.entries dt nt)
     → Shifted s t df nf dt nt leaves → Makes t root ps next (with_moved u (qf ++ nf ∷ []) (qt ++ nt ∷ []) leaves)
-shift_makes s t root ps next u m layer qf nf df qt nt dt leaves to_f to_t dir_f dir_t not_inside not_around free sd =
+shift_makes s t root ps next u m layer qf nf df qt nt dt leaves to_f to_t dir_f dir_t not_inside not_around free open_to sd =
     let sh = shifts s t root qf nf df qt nt dt leaves m.table to_f to_t dir_f dir_t not_inside sd in
     let from = qf ++ nf ∷ [] in
     let to = qt ++ nt ∷ [] in
     record {
-      table = shifting.table s t root qf nf df qt nt dt leaves sh not_inside not_around m.table;
+      table = shifting.table s t root qf nf df qt nt dt leaves sh not_inside not_around m.table open_to (λ c some. subst IsSome (sd.nodes c) some);
       filed = record {
         placed = λ x c k leads number. let y = shifting.came s t root qf nf df qt nt dt leaves sh not_inside not_around x c leads in m.filed.placed y.0 c k y.1 (ap (option_and_then number_of) (sym (sd.nodes c)) ∙ number);
         housed = λ k c is. let leaf = m.filed.housed k c is in (leaf.0, sd.bodies c ∙ leaf.1, sd.nodes c ∙ leaf.2);
@@ -202,11 +202,11 @@ leaf_number k (body_kinds.Symlink t) = refl
 -- ---- a move, at its paths
 
 pub moved_made : (s t : SlotView) (root : ℕ) (ps : Places) (next : ℕ) (u : Tree) (from to qf : Names) (nf : List ℕ) (df : ℕ) (qt : Names) (nt : List ℕ) (dt : ℕ) (leaves : Bool) → Spot s root ps next u from qf nf df → Spot s root ps next u to qt nt dt
-    → IsMovable u from to → IsFree (at u to) → Shifted s t df nf dt nt leaves → Makes t root ps next (with_moved u from to leaves)
-moved_made s t root ps next u from to qf nf df qt nt dt leaves one two movable free sd =
+    → IsMovable u from to → IsFree (at u to) → IsOpen (s.entries dt nt) → Shifted s t df nf dt nt leaves → Makes t root ps next (with_moved u from to leaves)
+moved_made s t root ps next u from to qf nf df qt nt dt leaves one two movable free open_to sd =
     let inside : begins (qf ++ nf ∷ []) (qt ++ nt ∷ []) ≡ false = (λ i. begins (sym one.splits i) (sym two.splits i)) ∙ movable.not_inside in
     let around : begins (qt ++ nt ∷ []) (qf ++ nf ∷ []) ≡ false = (λ i. begins (sym two.splits i) (sym one.splits i)) ∙ movable.not_around in
-    let made = shift_makes s t root ps next u one.makes one.layer qf nf df qt nt dt leaves one.leads two.leads one.dir two.dir inside around (subst (λ (p : Names). IsFree (at u p)) two.splits free) sd in
+    let made = shift_makes s t root ps next u one.makes one.layer qf nf df qt nt dt leaves one.leads two.leads one.dir two.dir inside around (subst (λ (p : Names). IsFree (at u p)) two.splits free) open_to sd in
     subst (λ (x : Tree). Makes t root ps next x) (λ i. with_moved u (sym one.splits i) (sym two.splits i) leaves) made
 
 -- what is at the source

@@ -4,9 +4,10 @@ use Rattle.std.specs.Prelude.{is_some, ◌==◌, ◌&&◌, IsErrOf}
 use Rattle.std.specs.Ordering.{nat_cmp}
 use Rattle.std.specs.BTreeMap.{is_at}
 use Rattle.std.proofs.lemmas.Bool.Decides.{nat_tests}
-use Rattle.snap_path.specs.Limits.{most_mode, most_number}
+use Rattle.snap_path.specs.Limits.{most_number}
 use Rattle.snap_path.specs.Memory.{no_memory}
 use Rattle.snap_path.specs.Text.{Names, IsPath}
+use Rattle.snap_layer.specs.declared.node.Meta.{Meta}
 use Rattle.snap_layer.specs.declared.error.LayerError.{LayerError}
 use Rattle.snap_layer.specs.declared.error.LayerError.TheVariants.{LayerFull, OutOfMemory}
 use Rattle.snap_layer.specs.declared.content.Content.{Content}
@@ -17,7 +18,7 @@ use Rattle.snap_layer.specs.declared.node.Body.TheVariants as body_kinds
 use Rattle.snap_layer.specs.Tree.{Tree, Entries, at, body, number_of, number_at, leaf_node}
 use Rattle.snap_layer.specs.Counts.{inode_count, name_count, is_within}
 use Rattle.snap_layer.specs.Contents.{IsContent}
-use Rattle.snap_layer.specs.Layers.{IsLayer, IsFile, IsSymlink, IsWhole, IsBody, is_target}
+use Rattle.snap_layer.specs.Layers.{IsLayer, IsFile, IsSymlink, IsWhole, IsBody, is_target, IsMeta}
 use Rattle.snap_layer.specs.Edits.{with_node, with_new, without, HasRoom, HasPlace}
 use Rattle.snap_layer.proofs.Counting.{dropped}
 use Rattle.snap_layer.proofs.Looks.{SetsBody-insert_entry, is_dropped, split_number}
@@ -77,10 +78,10 @@ becomes u i count layer next = record {
 
 module _ (t : Tree) (ok : IsLayer t) (p : Names) (path : IsPath p) (r : ℕ) (left : r ≡ inode_count (without t p)) where
   -- a directory over nothing or a whiteout
-  pub dir_becomes : (mode : ℕ) (opaque : Bool) → HasRoom t p → mode ≤ most_mode → Becomes (with_node t p (Dir mode opaque)) (r + 1)
-  dir_becomes mode opaque room low =
+  pub dir_becomes : (meta : Meta) (opaque : Bool) → HasRoom t p → IsMeta meta → Becomes (with_node t p (Dir meta opaque)) (r + 1)
+  dir_becomes meta opaque room low =
       let place = HasPlace-from_room t p ok room in
-      becomes (with_node t p (Dir mode opaque)) (r + 1) (omega (arith, inode_count-with_node t p (Dir mode opaque) ok)) (IsLayer-with_node t p (Dir mode opaque) ok place path low) ok.next.1
+      becomes (with_node t p (Dir meta opaque)) (r + 1) (omega (arith, inode_count-with_node t p (Dir meta opaque) ok)) (IsLayer-with_node t p (Dir meta opaque) ok place path low) ok.next.1
 
   -- a whiteout in place of what may be replaced
   pub whiteout_becomes : HasPlace t p → Becomes (with_node t p Whiteout) (r + 1)
@@ -116,11 +117,11 @@ module _ (t : Tree) (ok : IsLayer t) (p : Names) (path : IsPath p) (r : ℕ) (le
   new_body n b = (SetsBody-insert_entry (without t p) (with_new t p n b) t.next b refl).here
 
   module _ (place : HasPlace t p) (last : t.next < most_number) where
-    pub file_becomes : (mode : ℕ) (content : Content) → mode ≤ most_mode → IsContent content → Becomes (with_new t p (File t.next) (body_kinds.File mode content)) (r + 1)
-    file_becomes mode content low short =
-        let u = with_new t p (File t.next) (body_kinds.File mode content) in
-        becomes u (r + 1) (omega (arith, inode_count-with_new t p (File t.next) (body_kinds.File mode content) ok refl))
-        (IsLayer-with_new t p (File t.next) (body_kinds.File mode content) ok place path refl (subst IsFile (sym (new_body (File t.next) (body_kinds.File mode content))) (low, short)) last) (omega arith)
+    pub file_becomes : (meta : Meta) (content : Content) → IsMeta meta → IsContent content → Becomes (with_new t p (File t.next) (body_kinds.File meta content)) (r + 1)
+    file_becomes meta content low short =
+        let u = with_new t p (File t.next) (body_kinds.File meta content) in
+        becomes u (r + 1) (omega (arith, inode_count-with_new t p (File t.next) (body_kinds.File meta content) ok refl))
+        (IsLayer-with_new t p (File t.next) (body_kinds.File meta content) ok place path refl (subst IsFile (sym (new_body (File t.next) (body_kinds.File meta content))) (low, short)) last) (omega arith)
 
     pub symlink_becomes : (target : List ℕ) → is_target target ≡ true → Becomes (with_new t p (Symlink t.next) (body_kinds.Symlink target)) (r + 1)
     symlink_becomes target fine =
@@ -129,11 +130,11 @@ module _ (t : Tree) (ok : IsLayer t) (p : Names) (path : IsPath p) (r : ℕ) (le
         (IsLayer-with_new t p (Symlink t.next) (body_kinds.Symlink target) ok place path refl (subst IsSymlink (sym (new_body (Symlink t.next) (body_kinds.Symlink target))) fine) last) (omega arith)
 
     pub body_becomes : (b : Body) → IsBody b → Becomes (with_new t p (leaf_node t.next b) b) (r + 1)
-    body_becomes (body_kinds.File mode content) fits = file_becomes mode content fits.0 fits.1
+    body_becomes (body_kinds.File meta content) fits = file_becomes meta content fits.0 fits.1
     body_becomes (body_kinds.Symlink target) fits = symlink_becomes target fits
 
 -- a number's body tells its kind
-pub file_kind : (m : ℕ) (content : Content) (n : Node) (t : Tree) (k : ℕ) → IsWhole t n → number_of n ≡ Some k → body t k ≡ Some (body_kinds.File m content) → IsFile (body t k)
+pub file_kind : (m : Meta) (content : Content) (n : Node) (t : Tree) (k : ℕ) → IsWhole t n → number_of n ≡ Some k → body t k ≡ Some (body_kinds.File m content) → IsFile (body t k)
 file_kind m content (Dir x y) t k whole e is = absurd (cc)
 file_kind m content (File j) t k whole e is = let same : j ≡ k = cc in subst (λ (i : ℕ). IsFile (body t i)) same whole
 file_kind m content (Symlink j) t k whole e is = let same : j ≡ k = cc in absurd (subst IsSymlink (ap (body t) same ∙ is) whole)
@@ -146,7 +147,7 @@ symlink_kind target (Symlink j) t k whole e is = let same : j ≡ k = cc in subs
 symlink_kind target Whiteout t k whole e is = absurd (cc)
 
 -- the kind of a body that a layer has under a number
-pub file_there : (t : Tree) → IsLayer t → (k m : ℕ) (content : Content) → body t k ≡ Some (body_kinds.File m content) → IsFile (body t k)
+pub file_there : (t : Tree) → IsLayer t → (k : ℕ) (m : Meta) (content : Content) → body t k ≡ Some (body_kinds.File m content) → IsFile (body t k)
 file_there t ok k m content is =
     let name = ok.named k (ap is_some is) in
     let n = node_with_number (at t name.0) k name.1 in

@@ -3,15 +3,16 @@ use Rattle.std.proofs.Common.{◌≡◌, ℕ, ◌+◌, ◌≤◌, Bool, true, fa
 use Rattle.std.specs.Prelude.{option_and_then, is_some}
 use Rattle.std.specs.Cmp.{nat_cmp_total}
 use Rattle.std.specs.List.Sorted.{IsStrictlySortedBy}
-use Rattle.snap_path.specs.Limits.{most_mode, most_number}
+use Rattle.snap_path.specs.Limits.{most_number}
 use Rattle.snap_path.specs.Text.{Names, IsPath, begins}
+use Rattle.snap_layer.specs.declared.node.Meta.{Meta}
 use Rattle.snap_layer.specs.declared.node.Node.{Node}
 use Rattle.snap_layer.specs.declared.node.Node.TheVariants.{Dir, File, Symlink, Whiteout}
 use Rattle.snap_layer.specs.declared.node.Body.{Body}
 use Rattle.snap_layer.specs.declared.node.Body.TheVariants as body_kinds
 use Rattle.snap_layer.specs.Tree.{Tree, path_cmp, at, body, number_of, number_at, is_dir, IsDirAt}
 use Rattle.snap_layer.specs.Counts.{inode_count, most_inodes}
-use Rattle.snap_layer.specs.Layers.{IsLayer, IsFile, IsSymlink, IsWhole}
+use Rattle.snap_layer.specs.Layers.{IsLayer, IsFile, IsSymlink, IsWhole, IsMeta}
 use Rattle.snap_layer.specs.Edits.{root_within, with_entry, with_body, without, IsFree, HasParent}
 use Rattle.snap_layer.proofs.Lists.{sorted-insert_entry, sorted-filter}
 use Rattle.snap_layer.proofs.Paths.{path_cmp_total, begins-trans, begins-append, split_front}
@@ -117,9 +118,9 @@ nothing_below t ok p no_dir n r = by (at t (p ++ n ∷ r)) refl
 
 -- ---- the root alone
 
-pub IsLayer-root_within : (most mode first : ℕ) → (1 ≤ most) × (most ≤ most_inodes) → mode ≤ most_mode → 1 ≤ first → first ≤ most_number → IsPath [] → IsLayer (root_within most mode first)
+pub IsLayer-root_within : (most : ℕ) (meta : Meta) (first : ℕ) → (1 ≤ most) × (most ≤ most_inodes) → IsMeta meta → 1 ≤ first → first ≤ most_number → IsPath [] → IsLayer (root_within most meta first)
 unfolding IsStrictlySortedBy
-IsLayer-root_within most mode first bounds low one last path = record {
+IsLayer-root_within most meta first bounds low one last path = record {
   root = refl;
   parents = λ q n some. absurd (no_child q n some);
   paths = standing;
@@ -133,16 +134,16 @@ IsLayer-root_within most mode first bounds low one last path = record {
   sorted_numbers = tt;
 }
   where
-    no_child : (q : Names) (n : List ℕ) → IsSome (at (root_within most mode first) (q ++ n ∷ [])) → ⊥
+    no_child : (q : Names) (n : List ℕ) → IsSome (at (root_within most meta first) (q ++ n ∷ [])) → ⊥
     no_child [] n e = cc
     no_child (x ∷ q) n e = cc
 
-    standing : (p : Names) → IsSome (at (root_within most mode first) p) → IsPath p
+    standing : (p : Names) → IsSome (at (root_within most meta first) p) → IsPath p
     standing [] some = path
     standing (x ∷ p) some = absurd (cc)
 
-    whole : (p : Names) (n : Node) → at (root_within most mode first) p ≡ Some n → IsWhole (root_within most mode first) n
-    whole [] n e = let same : Dir mode false ≡ n = cc in subst (IsWhole (root_within most mode first)) same low
+    whole : (p : Names) (n : Node) → at (root_within most meta first) p ≡ Some n → IsWhole (root_within most meta first) n
+    whole [] n e = let same : Dir meta false ≡ n = cc in subst (IsWhole (root_within most meta first)) same low
     whole (x ∷ p) n e = absurd (cc)
 
 -- ---- a node put at a path

@@ -16,7 +16,7 @@ use Rattle.snap_layer.specs.declared.node.Body.TheVariants as body_kinds
 use Rattle.snap_layer.specs.Tree.{Tree, Entries, IsDirAt, path_cmp, at, body, number_of, number_at, name_below, names_below}
 use Rattle.snap_layer.specs.Counts.{inode_count, block_count, body_blocks}
 use Rattle.snap_layer.specs.Layers.{IsLayer}
-use Rattle.snap_layer.specs.Edits.{with_entry, with_node, with_new, with_filled, with_body, with_mode, with_file_mode, body_with_mode, with_opaque, without, outside, bodies_without}
+use Rattle.snap_layer.specs.Edits.{with_entry, with_node, with_new, with_filled, with_body, with_mode, with_file_mode, body_with_mode, with_opaque, without, outside, bodies_without, meta_with_mode}
 use Rattle.std.proofs.lemmas.Bool.{cond-true, cond-false}
 use Rattle.std.proofs.lemmas.Slice.Eq.{bytes_eq-Decides}
 use Rattle.snap_layer.proofs.Lists.{at_itself, apart_from, sorted-filter, sorted-insert_entry}
@@ -90,7 +90,7 @@ SetsBody-with_new t p n b = SetsBody-insert_entry (without t p) (with_new t p n 
 
 pub at-with_filled : (t : Tree) (k : ℕ) (o : Option Body) (content : Content) (q : Names) → at (with_filled t k o content) q ≡ at t q
 at-with_filled t k None content q = refl
-at-with_filled t k (Some (body_kinds.File mode old)) content q = refl
+at-with_filled t k (Some (body_kinds.File meta old)) content q = refl
 at-with_filled t k (Some (body_kinds.Symlink target)) content q = refl
 
 pub at-with_file_mode : (t : Tree) (k : ℕ) (o : Option Body) (mode : ℕ) (q : Names) → at (with_file_mode t k o mode) q ≡ at t q
@@ -100,14 +100,14 @@ at-with_file_mode t k (Some b) mode q = refl
 -- no other path sees a change of mode or of the mark
 pub at-with_mode : (t : Tree) (p : Names) (o : Option Node) (mode : ℕ) (q : Names) → (q ≡ p → ⊥) → at (with_mode t p o mode) q ≡ at t q
 at-with_mode t p None mode q apart = refl
-at-with_mode t p (Some (Dir old opaque)) mode q apart = (Sets-with_entry t p (Dir mode opaque)).others q apart
+at-with_mode t p (Some (Dir meta opaque)) mode q apart = (Sets-with_entry t p (Dir (meta_with_mode meta mode) opaque)).others q apart
 at-with_mode t p (Some (File k)) mode q apart = at-with_file_mode t k (body t k) mode q
 at-with_mode t p (Some (Symlink k)) mode q apart = refl
 at-with_mode t p (Some Whiteout) mode q apart = refl
 
 pub at-with_opaque : (t : Tree) (p : Names) (o : Option Node) (opaque : Bool) (q : Names) → (q ≡ p → ⊥) → at (with_opaque t p o opaque) q ≡ at t q
 at-with_opaque t p None opaque q apart = refl
-at-with_opaque t p (Some (Dir mode old)) opaque q apart = (Sets-with_entry t p (Dir mode opaque)).others q apart
+at-with_opaque t p (Some (Dir meta old)) opaque q apart = (Sets-with_entry t p (Dir meta opaque)).others q apart
 at-with_opaque t p (Some (File k)) opaque q apart = refl
 at-with_opaque t p (Some (Symlink k)) opaque q apart = refl
 at-with_opaque t p (Some Whiteout) opaque q apart = refl
@@ -143,7 +143,7 @@ inode_count-with_file_mode t ok k mode None e = refl
 inode_count-with_file_mode t ok k mode (Some b) e = inode_count-with_body t k (body_with_mode b mode) ok.sorted_numbers (subst IsSome (sym e) refl)
 
 same_blocks : (b : Body) (mode : ℕ) → body_blocks (body_with_mode b mode) ≡ body_blocks b
-same_blocks (body_kinds.File old content) mode = refl
+same_blocks (body_kinds.File meta content) mode = refl
 same_blocks (body_kinds.Symlink target) mode = refl
 
 block_count-with_file_mode : (t : Tree) → IsLayer t → (k mode : ℕ) (o : Option Body) → body t k ≡ o → block_count (with_file_mode t k o mode) ≡ block_count t
@@ -155,7 +155,7 @@ inode_count-with_mode t ok p mode = by (at t p) refl
   where
     by : (o : Option Node) → at t p ≡ o → inode_count (with_mode t p o mode) ≡ inode_count t
     by None e = refl
-    by (Some (Dir old opaque)) e = omega (arith, inode_count-with_entry t p (Dir mode opaque) ok.sorted_paths, ap inodes_of e)
+    by (Some (Dir meta opaque)) e = omega (arith, inode_count-with_entry t p (Dir (meta_with_mode meta mode) opaque) ok.sorted_paths, ap inodes_of e)
     by (Some (File k)) e = inode_count-with_file_mode t ok k mode (body t k) refl
     by (Some (Symlink k)) e = refl
     by (Some Whiteout) e = refl
@@ -165,7 +165,7 @@ block_count-with_mode t ok p mode = by (at t p) refl
   where
     by : (o : Option Node) → at t p ≡ o → block_count (with_mode t p o mode) ≡ block_count t
     by None e = refl
-    by (Some (Dir old opaque)) e = omega (arith, block_count-with_entry t p (Dir mode opaque) ok.sorted_paths, ap (weight dirs) e)
+    by (Some (Dir meta opaque)) e = omega (arith, block_count-with_entry t p (Dir (meta_with_mode meta mode) opaque) ok.sorted_paths, ap (weight dirs) e)
     by (Some (File k)) e = block_count-with_file_mode t ok k mode (body t k) refl
     by (Some (Symlink k)) e = refl
     by (Some Whiteout) e = refl

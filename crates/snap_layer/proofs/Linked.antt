@@ -208,7 +208,7 @@ module _ (t : Tree) (ok : IsLayer t) (path link : Names) (rooms : HasRooms t pat
     link_becomes = by b fits
       where
         by : (c : Body) → IsBody c → Becomes (with_new t link (leaf_node t.next c) c) (r + 1)
-        by (body_kinds.File mode content) f = file_becomes t ok link link_is r left link_place last mode content f.0 f.1
+        by (body_kinds.File meta content) f = file_becomes t ok link link_is r left link_place last meta content f.0 f.1
         by (body_kinds.Symlink target) f = symlink_becomes t ok link link_is r left link_place last target f
 
     pub linked_becomes : Becomes (with_linked t path link b) (r + 1)

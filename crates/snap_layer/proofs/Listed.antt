@@ -143,12 +143,12 @@ module _ (s : Slots Inode) (root : ℕ) (there : (q : Names) (c : ℕ) → walk 
   all_clear order clear = by (items_from s o) (found_each nat_list_cmp_total (items_from s o) order)
     where
       leaf_apart : (k : ℕ) (b : Body) → is_whiteout (leaf_node k b) ≡ true → ⊥
-      leaf_apart k (body_kinds.File mode content) e = cc
+      leaf_apart k (body_kinds.File meta content) e = cc
       leaf_apart k (body_kinds.Symlink goal) e = cc
 
       no_inode : (x : Option Inode) → IsSome (node_of x) → IsFree (node_of x) → ⊥
       no_inode None some free = cc
-      no_inode (Some (Dir mode opaque entries)) some free = cc
+      no_inode (Some (Dir meta opaque entries)) some free = cc
       no_inode (Some (Leaf number links body)) some free = leaf_apart number body free
 
       item : (n : List ℕ) (t : Target) → lookup (is_at (name_cmp n)) (items_from s o) ≡ Some t → targets_whiteout t ≡ true

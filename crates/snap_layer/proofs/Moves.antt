@@ -326,7 +326,7 @@ no_number e = cc
 
 -- whether a node is whole is a matter of the bodies alone
 pub same_whole : (t u : Tree) (n : Node) → t.bodies ≡ u.bodies → IsWhole t n → IsWhole u n
-same_whole t u (Dir mode opaque) same whole = whole
+same_whole t u (Dir meta opaque) same whole = whole
 same_whole t u (File number) same whole = subst (λ bs. IsFile (lookup (is_at (nat_cmp number)) bs)) same whole
 same_whole t u (Symlink number) same whole = subst (λ bs. IsSymlink (lookup (is_at (nat_cmp number)) bs)) same whole
 same_whole t u Whiteout same whole = tt

@@ -15,11 +15,11 @@ use Rattle.snap_layer.proofs.Replacing.{with_node-free}
 use Rattle.snap_layer.proofs.Laws.{Replaces-with_node}
 use Rattle.snap_layer.specs.declared.inode.Target.{Target}
 use Rattle.snap_layer.specs.declared.inode.Target.TheVariants as target
-use Rattle.snap_layer.specs.Walk.{SlotView, walk, node_shown, IsTable, IsBare, Puts, Links, Same, Adds}
+use Rattle.snap_layer.specs.Walk.{SlotView, walk, node_shown, IsTable, IsBare, IsOpen, Puts, Links, Same, Adds}
 use Rattle.snap_layer.specs.Holds.{Places, place, IsFiled}
-use Rattle.snap_layer.proofs.Frames.{split_ℕ, split_name}
+use Rattle.snap_layer.proofs.Frames.{split_ℕ, split_name, walk_push}
 use Rattle.snap_layer.proofs.Makes.{Makes}
-use Rattle.snap_layer.proofs.Beside.{Beside, Leaves, by_walk, IsFresh, table, shows}
+use Rattle.snap_layer.proofs.Beside.{Beside, Leaves, by_walk, open_out, IsFresh, AllLeft, table, shows}
 
 pub no_some : {A : Type 0} (x : A) → None ≡ Some x → ⊥
 no_some x e = cc
@@ -48,6 +48,7 @@ module _ (s t : SlotView) (root : ℕ) (alike : Same s t) where
       root_dir = subst IsDirAt (sym (alike.nodes root)) m.table.root_dir;
       there = λ p c is. subst IsSome (sym (alike.nodes c)) (m.table.there p c (sym (walk_same p) ∙ is));
       forest = λ p q c dir to_p to_q. m.table.forest p q c (subst IsDirAt (alike.nodes c) dir) (sym (walk_same p) ∙ to_p) (sym (walk_same q) ∙ to_q);
+      reached = λ c some. let x = m.table.reached c (subst IsSome (alike.nodes c) some) in (x.0, walk_same x.0 ∙ x.1);
     };
     filed = record {
       placed = λ p c k is number. m.filed.placed p c k (sym (walk_same p) ∙ is) (ap (option_and_then number_of) (sym (alike.nodes c)) ∙ number);
@@ -76,6 +77,10 @@ puts_out s t root q n d w ok leads dir puts x m c to out = elim (split_ℕ c d) 
   ]
 ]
 
+-- a path to an inode does not go through an entry that has none
+pub reached_out : (s : SlotView) (root : ℕ) (q : Names) (n : List ℕ) (d : ℕ) → IsTable s root → walk s.entries root q ≡ Some (target.Inode d) → IsOpen (s.entries d n) → (c : ℕ) → IsSome (s.nodes c) → (x : Names) × (begins (q ++ n ∷ []) x ≡ false) × (walk s.entries root x ≡ Some (target.Inode c))
+reached_out s root q n d ok leads open_entry c some = let x = ok.reached c some in (x.0, open_out s root q n d leads open_entry x.0 c x.1, x.1)
+
 module _ (s t : SlotView) (root : ℕ) (q : Names) (n : List ℕ) (d : ℕ) (ok : IsTable s root) (leads : walk s.entries root q ≡ Some (target.Inode d)) (dir : IsDirAt (s.nodes d)) where
   -- a new inode without entries
   module _ (k : ℕ) (v : Node) (bd : Option Body) (l : ℕ) (adds : Adds s t d n k v bd l) where
@@ -98,6 +103,12 @@ module _ (s t : SlotView) (root : ℕ) (q : Names) (n : List ℕ) (d : ℕ) (ok 
           λ dir_c x out to. not_new c (ok.there x c to) (sym here),
         )
 
+    pub adds_left : IsOpen (s.entries d n) → AllLeft s t root q n d (Some (target.Inode k)) adds_beside
+    adds_left open_entry c some = elim (split_ℕ c k) [
+      | inl same ↦ inl (ap (λ (x : ℕ). Some (target.Inode x)) (sym same))
+      | inr other ↦ inr (reached_out s root q n d ok leads open_entry c (subst IsSome (adds.nodes c other) some))
+    ]
+
   -- a whiteout, or nothing
   pub links_beside : (w : Option Target) → ((c : ℕ) → w ≡ Some (target.Inode c) → ⊥) → Links s t d n w → Beside s t root q n d w
   links_beside w no_inode links = record {
@@ -112,6 +123,9 @@ module _ (s t : SlotView) (root : ℕ) (q : Names) (n : List ℕ) (d : ℕ) (ok 
       bare None never = tt
       bare (Some target.Whiteout) never = tt
       bare (Some (target.Inode c)) never = absurd (never c refl)
+
+  pub links_left : (w : Option Target) (no_inode : (c : ℕ) → w ≡ Some (target.Inode c) → ⊥) (links : Links s t d n w) → IsOpen (s.entries d n) → AllLeft s t root q n d w (links_beside w no_inode links)
+  links_left w no_inode links open_entry c some = inr (reached_out s root q n d ok leads open_entry c (subst IsSome (links.nodes c) some))
 
 -- ---- the files stay
 
@@ -177,16 +191,16 @@ pub housed_some : (s : SlotView) (root : ℕ) (ps : Places) (u : Tree) → IsFil
 housed_some s root ps u filed j c is = ap is_some (filed.housed j c is).2
 
 -- a directory put
-pub dir_makes : (s t : SlotView) (root : ℕ) (ps : Places) (next : ℕ) (u : Tree) → Makes s root ps next u → IsLayer u → (q : Names) (n : List ℕ) (d : ℕ) → walk s.entries root q ≡ Some (target.Inode d) → IsDirAt (s.nodes d) → IsFree (at u (q ++ n ∷ []))
+pub dir_makes : (s t : SlotView) (root : ℕ) (ps : Places) (next : ℕ) (u : Tree) → Makes s root ps next u → IsLayer u → (q : Names) (n : List ℕ) (d : ℕ) → walk s.entries root q ≡ Some (target.Inode d) → IsDirAt (s.nodes d) → IsFree (at u (q ++ n ∷ [])) → IsOpen (s.entries d n)
     → (k : ℕ) (v : Node) (bd : Option Body) (l : ℕ) → Adds s t d n k v bd l → number_of v ≡ None → Makes t root ps next (with_entry u (q ++ n ∷ []) v)
-dir_makes s t root ps next u m layer q n d leads dir free k v bd l adds plain =
+dir_makes s t root ps next u m layer q n d leads dir free open_entry k v bd l adds plain =
     let b = adds_beside s t root q n d m.table leads dir k v bd l adds in
     let new : t.nodes k ≡ Some v = adds.node in
     let stay : (j c : ℕ) → place ps j ≡ Some c → (t.nodes c ≡ s.nodes c) × (t.bodies c ≡ s.bodies c) × (t.counts c ≡ s.counts c) =
     λ j c at_j. let other = not_new s t root q n d m.table leads dir k v bd l adds c (housed_some s root ps u m.filed j c at_j) in (adds.nodes c other, adds.bodies c other, adds.counts c other) in
     let laws = entry_leaves u layer (q ++ n ∷ []) v free in
     record {
-      table = table s t root q n d (Some (target.Inode k)) b m.table (adds_fresh s t root q n d m.table leads dir k v bd l adds);
+      table = table s t root q n d (Some (target.Inode k)) b m.table (adds_fresh s t root q n d m.table leads dir k v bd l adds) (adds_left s t root q n d m.table leads dir k v bd l adds open_entry);
       filed = filed_keep s t root q n d (Some (target.Inode k)) b ps u (with_entry u (q ++ n ∷ []) v) m.filed stay (plain_names u layer (q ++ n ∷ []) v free plain) (ap (option_and_then number_of) new ∙ plain);
       shows = shows s t root q n d (Some (target.Inode k)) b u (with_entry u (q ++ n ∷ []) v) m.shows (record { here = laws.here ∙ sym new; below = laws.below; others = laws.others });
       bodies = bodies_keep s t root q n d (Some (target.Inode k)) b ps u (with_entry u (q ++ n ∷ []) v) m.filed stay m.bodies;
@@ -194,18 +208,36 @@ dir_makes s t root ps next u m layer q n d leads dir free k v bd l adds plain =
     }
 
 -- a whiteout put
-pub white_makes : (s t : SlotView) (root : ℕ) (ps : Places) (next : ℕ) (u : Tree) → Makes s root ps next u → IsLayer u → (q : Names) (n : List ℕ) (d : ℕ) → walk s.entries root q ≡ Some (target.Inode d) → IsDirAt (s.nodes d) → IsFree (at u (q ++ n ∷ []))
+pub white_makes : (s t : SlotView) (root : ℕ) (ps : Places) (next : ℕ) (u : Tree) → Makes s root ps next u → IsLayer u → (q : Names) (n : List ℕ) (d : ℕ) → walk s.entries root q ≡ Some (target.Inode d) → IsDirAt (s.nodes d) → IsFree (at u (q ++ n ∷ [])) → IsOpen (s.entries d n)
     → Links s t d n (Some target.Whiteout) → Makes t root ps next (with_entry u (q ++ n ∷ []) node.Whiteout)
-white_makes s t root ps next u m layer q n d leads dir free links =
+white_makes s t root ps next u m layer q n d leads dir free open_entry links =
     let b = links_beside s t root q n d m.table leads dir (Some target.Whiteout) (λ c e. cc) links in
     let stay : (j c : ℕ) → place ps j ≡ Some c → (t.nodes c ≡ s.nodes c) × (t.bodies c ≡ s.bodies c) × (t.counts c ≡ s.counts c) = λ j c at_j. (links.nodes c, links.bodies c, links.counts c) in
     record {
-      table = table s t root q n d (Some target.Whiteout) b m.table (λ c e. absurd (cc));
+      table = table s t root q n d (Some target.Whiteout) b m.table (λ c e. absurd (cc)) (links_left s t root q n d m.table leads dir (Some target.Whiteout) (λ c e. cc) links open_entry);
       filed = filed_keep s t root q n d (Some target.Whiteout) b ps u (with_entry u (q ++ n ∷ []) node.Whiteout) m.filed stay (plain_names u layer (q ++ n ∷ []) node.Whiteout free refl) refl;
       shows = shows s t root q n d (Some target.Whiteout) b u (with_entry u (q ++ n ∷ []) node.Whiteout) m.shows (entry_leaves u layer (q ++ n ∷ []) node.Whiteout free);
       bodies = bodies_keep s t root q n d (Some target.Whiteout) b ps u (with_entry u (q ++ n ∷ []) node.Whiteout) m.filed stay m.bodies;
       last = m.last;
     }
+
+-- where a free place shows the entry has no inode: none shows as a whiteout
+pub free_open : (s : SlotView) (root : ℕ) (ps : Places) (next : ℕ) (u : Tree) → Makes s root ps next u → (q : Names) (n : List ℕ) (d : ℕ) → walk s.entries root q ≡ Some (target.Inode d) → IsFree (at u (q ++ n ∷ [])) → ((c : ℕ) → s.nodes c ≡ Some node.Whiteout → ⊥) → IsOpen (s.entries d n)
+free_open s root ps next u m q n d leads free no_whiteout = by (s.entries d n) refl
+  where
+    inode_shown : (c : ℕ) → s.entries d n ≡ Some (target.Inode c) → (o : Option Node) → s.nodes c ≡ o → IsSome o → IsFree o → ⊥
+    inode_shown c at_n None is some is_free = none_some {A = Node} None refl some
+    inode_shown c at_n (Some (node.Dir mode opaque)) is some is_free = cc
+    inode_shown c at_n (Some (node.File k)) is some is_free = cc
+    inode_shown c at_n (Some (node.Symlink k)) is some is_free = cc
+    inode_shown c at_n (Some node.Whiteout) is some is_free = no_whiteout c is
+
+    by : (o : Option Target) → s.entries d n ≡ o → IsOpen o
+    by None at_n = tt
+    by (Some target.Whiteout) at_n = tt
+    by (Some (target.Inode c)) at_n =
+        let to : walk s.entries root (q ++ n ∷ []) ≡ Some (target.Inode c) = walk_push s.entries root d q n leads ∙ at_n in
+        inode_shown c at_n (s.nodes c) refl (m.table.there (q ++ n ∷ []) c to) (subst IsFree (sym (m.shows (q ++ n ∷ [])) ∙ ap (node_shown s.nodes) to) free)
 
 -- ---- an edit's place
 
@@ -217,11 +249,12 @@ pub record Spot (s : SlotView) (root : ℕ) (ps : Places) (next : ℕ) (u : Tree
   pub leads : walk s.entries root q ≡ Some (target.Inode d)
   pub dir : IsDirAt (s.nodes d)
 
-pub dir_made : (s t : SlotView) (root : ℕ) (ps : Places) (next : ℕ) (u : Tree) (path q : Names) (n : List ℕ) (d : ℕ) → Spot s root ps next u path q n d → IsFree (at u path)
+pub dir_made : (s t : SlotView) (root : ℕ) (ps : Places) (next : ℕ) (u : Tree) (path q : Names) (n : List ℕ) (d : ℕ) → Spot s root ps next u path q n d → IsFree (at u path) → ((c : ℕ) → s.nodes c ≡ Some node.Whiteout → ⊥)
     → (k : ℕ) (v : Node) (bd : Option Body) (l : ℕ) → Adds s t d n k v bd l → number_of v ≡ None → Makes t root ps next (with_entry u path v)
-dir_made s t root ps next u path q n d spot free k v bd l adds plain =
-    subst (λ (p : Names). Makes t root ps next (with_entry u p v)) (sym spot.splits) (dir_makes s t root ps next u spot.makes spot.layer q n d spot.leads spot.dir (subst (λ (p : Names). IsFree (at u p)) spot.splits free) k v bd l adds plain)
+dir_made s t root ps next u path q n d spot free no_whiteout k v bd l adds plain =
+    let here : IsFree (at u (q ++ n ∷ [])) = subst (λ (p : Names). IsFree (at u p)) spot.splits free in
+    subst (λ (p : Names). Makes t root ps next (with_entry u p v)) (sym spot.splits) (dir_makes s t root ps next u spot.makes spot.layer q n d spot.leads spot.dir here (free_open s root ps next u spot.makes q n d spot.leads here no_whiteout) k v bd l adds plain)
 
-pub white_made : (s t : SlotView) (root : ℕ) (ps : Places) (next : ℕ) (u : Tree) (path q : Names) (n : List ℕ) (d : ℕ) → Spot s root ps next u path q n d → IsFree (at u path) → Links s t d n (Some target.Whiteout) → Makes t root ps next (with_entry u path node.Whiteout)
-white_made s t root ps next u path q n d spot free links =
-    subst (λ (p : Names). Makes t root ps next (with_entry u p node.Whiteout)) (sym spot.splits) (white_makes s t root ps next u spot.makes spot.layer q n d spot.leads spot.dir (subst (λ (p : Names). IsFree (at u p)) spot.splits free) links)
+pub white_made : (s t : SlotView) (root : ℕ) (ps : Places) (next : ℕ) (u : Tree) (path q : Names) (n : List ℕ) (d : ℕ) → Spot s root ps next u path q n d → IsFree (at u path) → IsOpen (s.entries d n) → Links s t d n (Some target.Whiteout) → Makes t root ps next (with_entry u path node.Whiteout)
+white_made s t root ps next u path q n d spot free open_entry links =
+    subst (λ (p : Names). Makes t root ps next (with_entry u p node.Whiteout)) (sym spot.splits) (white_makes s t root ps next u spot.makes spot.layer q n d spot.leads spot.dir (subst (λ (p : Names). IsFree (at u p)) spot.splits free) open_entry links)

@@ -3,9 +3,10 @@ use Rattle.std.proofs.Common.{◌≡◌, ℕ, ◌+◌, ◌≤◌, Bool, true, fa
 use Rattle.std.specs.Prelude.{◌-◌, ◌^◌, ◌&&◌, nat_le, IsErrOf, IsErrAnd}
 use Rattle.std.proofs.lemmas.Bool.Decides.{nat_tests}
 use Rattle.std.proofs.lemmas.Result.{err_from_is_err_and}
-use Rattle.snap_path.specs.Limits.{most_mode, most_number}
+use Rattle.snap_path.specs.Limits.{most_number}
 use Rattle.snap_path.specs.Memory.{no_memory}
 use Rattle.snap_path.specs.Text.{Names, IsPath}
+use Rattle.snap_layer.specs.declared.node.Meta.{Meta}
 use Rattle.snap_layer.specs.declared.error.LayerError.{LayerError}
 use Rattle.snap_layer.specs.declared.error.LayerError.TheVariants.{LayerFull, OutOfMemory}
 use Rattle.snap_layer.specs.declared.node.Node.{Node}
@@ -14,7 +15,7 @@ use Rattle.snap_layer.specs.declared.node.Body.{Body}
 use Rattle.snap_layer.specs.declared.totals.Totals.{Totals}
 use Rattle.snap_layer.specs.Tree.{Tree, at, leaf_node}
 use Rattle.snap_layer.specs.Counts.{inode_count, block_count, body_blocks, is_within}
-use Rattle.snap_layer.specs.Layers.{IsLayer, IsBody}
+use Rattle.snap_layer.specs.Layers.{IsLayer, IsBody, IsMeta}
 use Rattle.snap_layer.specs.Edits.{with_entry, with_linked, with_moved, with_new, with_node, without, HasPlace, HasRoom, HasRooms, IsMovable}
 use Rattle.snap_layer.specs.Totals.{path_count, fits, IsCounted, IsRoom}
 use Rattle.snap_layer.proofs.Filling.{one_if, SaysFull, memory_said, ok_said, dir_becomes, whiteout_becomes, body_becomes}
@@ -82,11 +83,11 @@ module _ (t u : Tree) (p : Names) (k i b : ℕ) (c : Costs t u p k i b) where
 -- ---- what each edit puts there
 
 module _ (t : Tree) (ok : IsLayer t) (p : Names) (path : IsPath p) where
-  pub dir_costs : (mode : ℕ) (opaque : Bool) → HasRoom t p → mode ≤ most_mode → Costs t (with_entry t p (Dir mode opaque)) p 0 1 1
-  dir_costs mode opaque room low =
-      let b = dir_becomes t ok p path (inode_count (without t p)) refl mode opaque room low in
-      subst (λ (u : Tree). Costs t u p 0 1 1) (with_node-free t ok p (Dir mode opaque) room.free)
-      (record { next = omega arith; most = refl; inodes = sym b.count; blocks = block_count-with_node t p (Dir mode opaque) ok; layer = λ few next. b.layer (omega (arith, few, b.count)) })
+  pub dir_costs : (meta : Meta) (opaque : Bool) → HasRoom t p → IsMeta meta → Costs t (with_entry t p (Dir meta opaque)) p 0 1 1
+  dir_costs meta opaque room low =
+      let b = dir_becomes t ok p path (inode_count (without t p)) refl meta opaque room low in
+      subst (λ (u : Tree). Costs t u p 0 1 1) (with_node-free t ok p (Dir meta opaque) room.free)
+      (record { next = omega arith; most = refl; inodes = sym b.count; blocks = block_count-with_node t p (Dir meta opaque) ok; layer = λ few next. b.layer (omega (arith, few, b.count)) })
 
   pub whiteout_costs : HasPlace t p → Costs t (with_node t p Whiteout) p 0 1 0
   whiteout_costs place =

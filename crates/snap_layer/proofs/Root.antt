@@ -1,5 +1,5 @@
 -- The table with the root alone.
-use Rattle.std.proofs.Common.{◌≡◌, ℕ, false, List, [], ◌∷◌, Some, None, IsSome, refl, sym, ap, subst, ◌∙◌}
+use Rattle.std.proofs.Common.{◌≡◌, ℕ, false, List, [], ◌∷◌, Some, None, IsSome, refl, sym, ap, subst, ◌∙◌, inl, inr}
 use Rattle.std.specs.Prelude.{option_and_then, is_some}
 use Rattle.std.specs.Ordering.{nat_cmp}
 use Rattle.std.specs.Cmp.Lexicographic.{slice_cmp}
@@ -8,6 +8,8 @@ use Rattle.std.specs.Map.{lookup}
 use Rattle.std.specs.BTreeMap.{BTreeMap, is_at}
 use Rattle.slab.specs.Slab.{Slab as Slots, get}
 use Rattle.snap_path.specs.Text.{Names}
+use Rattle.snap_layer.specs.declared.node.Meta.{Meta}
+use Rattle.snap_layer.specs.declared.node.Node.{Node}
 use Rattle.snap_layer.specs.Tree.{at, number_of, IsDirAt}
 use Rattle.snap_layer.specs.Edits.{root_within}
 use Rattle.snap_layer.specs.declared.inode.Inode.{Inode}
@@ -16,12 +18,16 @@ use Rattle.snap_layer.specs.declared.inode.Target.{Target}
 use Rattle.snap_layer.specs.declared.inode.Target.TheVariants as target
 use Rattle.snap_layer.specs.Walk.{follow, walk, entry_of, entry_at, node_of, node_at, node_shown, stands, view_of}
 use Rattle.snap_layer.specs.Holds.{Places}
+use Rattle.snap_layer.proofs.Frames.{split_ℕ}
 use Rattle.snap_layer.proofs.Makes.{Makes}
 
 no_some : {A : Type 0} (x : A) → None ≡ Some x → ⊥
 no_some x e = cc
 
-module _ (s : Slots Inode) (root most m first : ℕ) (es : BTreeMap (List ℕ) Target) (is : get s root ≡ Some (inode.Dir m false es)) (empty : es.entries ≡ []) where
+no_node : IsSome {T = Node} None → ⊥
+no_node e = cc
+
+module _ (s : Slots Inode) (root most : ℕ) (m : Meta) (first : ℕ) (es : BTreeMap (List ℕ) Target) (is : get s root ≡ Some (inode.Dir m false es)) (empty : es.entries ≡ []) (alone : (c : ℕ) → (c ≡ root → ⊥) → get s c ≡ None) where
   no_entry : (n : List ℕ) → entry_at s root n ≡ None
   no_entry n = ap (λ o. entry_of o n) is ∙ ap (lookup (is_at (slice_cmp nat_cmp n))) empty
 
@@ -46,6 +52,7 @@ module _ (s : Slots Inode) (root most m first : ℕ) (es : BTreeMap (List ℕ) T
       root_dir = subst IsDirAt (sym (ap node_of is)) refl;
       there = λ p c to. subst (λ (x : ℕ). IsSome (node_at s x)) (only p c to).1 (ap is_some (ap node_of is));
       forest = λ p q c dir to_p to_q. (only p c to_p).0 ∙ sym (only q c to_q).0;
+      reached = λ c some. elim (split_ℕ c root) [ inl same ↦ ([], ap (λ (x : ℕ). Some (target.Inode x)) (sym same)) | inr other ↦ absurd (no_node (subst IsSome (ap node_of (alone c other)) some)) ];
     };
     filed = record {
       placed = λ p c k to number. absurd (no_some k (sym (ap (λ (x : ℕ). option_and_then number_of (node_at s x)) (sym (only p c to).1) ∙ ap (λ o. option_and_then number_of (node_of o)) is) ∙ number));

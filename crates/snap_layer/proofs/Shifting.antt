@@ -11,7 +11,7 @@ use Rattle.snap_layer.specs.declared.inode.Target.{Target}
 use Rattle.snap_layer.specs.declared.inode.Target.TheVariants as target
 use Rattle.snap_layer.specs.Walk.{SlotView, walk, node_shown, stands, IsTable, IsOpen, left_at, Shifted}
 use Rattle.snap_layer.proofs.Frames.{walk_agree, walk_push, walk_past, walk-append, open_bare}
-use Rattle.snap_layer.proofs.Beside.{front_out, seen_agree}
+use Rattle.snap_layer.proofs.Beside.{front_out, open_out, seen_agree}
 
 -- t has at `to` what s had at `from`, at `from` what is left, and elsewhere reads as s along each path
 pub record Shifts (s t : SlotView) (root : ℕ) (qf : Names) (nf : List ℕ) (df : ℕ) (qt : Names) (nt : List ℕ) (dt : ℕ) (leaves : Bool) : Type 0 where
@@ -109,8 +109,8 @@ module _ (s t : SlotView) (root : ℕ) (qf : Names) (nf : List ℕ) (df : ℕ) (
       no_left true e = cc
       no_left false e = cc
 
-  pub table : IsTable s root → IsTable t root
-  table ok = record {
+  pub table : IsTable s root → IsOpen (s.entries dt nt) → ((c : ℕ) → IsSome (t.nodes c) → IsSome (s.nodes c)) → IsTable t root
+  table ok open_to had = record {
     root_dir = subst IsDirAt (sym (sh.nodes [] root refl (not_of_root to (λ e. omega (arith, ap length e, length-append qt (nt ∷ [])))))) ok.root_dir;
     there = λ x c leads. let y = came x c leads in subst IsSome (sym (sh.nodes y.0 c y.1 y.2)) (ok.there y.0 c y.1);
     forest = λ x z c dir to_x to_z.
@@ -126,6 +126,12 @@ module _ (s t : SlotView) (root : ℕ) (qf : Names) (nf : List ℕ) (df : ℕ) (
             | inl again ↦ absurd (no (sym (begins_from from y.0 again.0 (same ∙ again.2)) ∙ stays.1))
             | inr other ↦ stays.0 ∙ same ∙ sym other.0
           ]
+        ];
+    reached = λ c some.
+        let y = ok.reached c (had c some) in
+        elim (split_front from y.0) [
+          | inl moved ↦ (to ++ moved.1, walk_moved moved.1 ∙ ap (walk s.entries root) (sym moved.2) ∙ y.1)
+          | inr stays ↦ (y.0, walk_else y.0 stays.0 (open_out s root qt nt dt sh.leads_to open_to y.0 c y.1) ∙ y.1)
         ];
   }
     where

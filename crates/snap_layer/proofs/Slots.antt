@@ -8,6 +8,7 @@ use Rattle.std.specs.FinMap.{slice_cmp-IsAntisymmetric, nat_cmp-IsAntisymmetric}
 use Rattle.std.specs.BTreeMap.{is_at}
 use Rattle.slab.specs.Slab.{Slab as Slots, get, with_value}
 use Rattle.slab.proofs.SlabLemmas.{Updates-with_value}
+use Rattle.snap_layer.specs.declared.node.Meta.{Meta}
 use Rattle.snap_layer.proofs.Lists.{split_key}
 use Rattle.snap_layer.specs.declared.node.Node.TheVariants as node
 use Rattle.snap_layer.specs.declared.node.Body.{Body}
@@ -94,7 +95,7 @@ reserved s t e =
     record { entries = λ c m. ap (λ o. entry_of o m) (g c); nodes = λ c. ap node_of (g c); bodies = λ c. ap body_of (g c); counts = λ c. ap links_of (g c) }
 
 -- an empty directory has no names
-pub no_names : (es : BTreeMap (List ℕ) Target) → es.entries ≡ [] → (m : ℕ) (o : Bool) (n : List ℕ) → entry_of (Some (inode.Dir m o es)) n ≡ None
+pub no_names : (es : BTreeMap (List ℕ) Target) → es.entries ≡ [] → (m : Meta) (o : Bool) (n : List ℕ) → entry_of (Some (inode.Dir m o es)) n ≡ None
 no_names es empty m o n = ap (lookup (is_at (slice_cmp nat_cmp n))) empty
 
 -- the body set
@@ -121,7 +122,7 @@ plain s c is = by (get s c) is
 
     by : (o : Option Inode) → node_of o ≡ Some node.Whiteout → ⊥
     by None e = cc
-    by (Some (inode.Dir mode o es)) e = cc
+    by (Some (inode.Dir meta o es)) e = cc
     by (Some (inode.Leaf number links_ body_)) e = no_leaf number body_ (cc)
 
 -- ---- two entries put

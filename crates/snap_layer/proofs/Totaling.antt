@@ -9,8 +9,8 @@ use Rattle.std.specs.BTreeMap.{is_at}
 use Rattle.std.proofs.lemmas.Bool.{cond-true}
 use Rattle.std.proofs.lemmas.List.Sums.{sum_by-cons}
 use Rattle.std.proofs.lemmas.Map.Entries.{sum_by-insert_entry}
-use Rattle.snap_path.specs.Limits.{most_mode}
 use Rattle.snap_path.specs.Text.{Names, IsPath, begins}
+use Rattle.snap_layer.specs.declared.node.Meta.{Meta}
 use Rattle.snap_layer.specs.declared.node.Node.{Node}
 use Rattle.snap_layer.specs.declared.node.Node.TheVariants as node
 use Rattle.snap_layer.specs.declared.node.Body.{Body}
@@ -18,7 +18,7 @@ use Rattle.snap_layer.specs.declared.node.Body.TheVariants as body_kinds
 use Rattle.snap_layer.specs.declared.totals.Totals.{Totals}
 use Rattle.snap_layer.specs.Tree.{Tree, Entries, path_cmp, at, body, number_of, number_at, has_number, is_dir, is_whiteout, IsDirAt, leaf_node}
 use Rattle.snap_layer.specs.Counts.{dir_count, whiteout_count, inode_count, block_count, name_count, body_blocks, most_file_blocks, most_inodes}
-use Rattle.snap_layer.specs.Layers.{IsLayer}
+use Rattle.snap_layer.specs.Layers.{IsLayer, IsMeta}
 use Rattle.snap_layer.specs.Edits.{with_entry, with_body, with_node, with_moved, without, outside, inside, HasPlace}
 use Rattle.snap_layer.specs.Totals.{path_count, Counts, IsClear}
 use Rattle.snap_layer.proofs.Lists.{lookup-filter, sum_by-filter}
@@ -145,8 +145,8 @@ module _ (t : Tree) (ok : IsLayer t) (p : Names) (v : Totals) (paths : v.paths �
   pub counts_node : (n : Node) → v.inodes ≡ inode_count (with_node t p n) → v.blocks ≡ block_count (without t p) + dirs n → Counts v (with_node t p n)
   counts_node n inodes blocks = record { inodes = inodes; blocks = omega (arith, blocks, block_count-with_node t p n ok); paths = omega (arith, path_count-with_node t p n ok.sorted_paths, paths) }
 
--- a directory's mode or mark changes nothing
-pub counts_dir : (t : Tree) → IsLayer t → (p : Names) (m n : ℕ) (b c : Bool) (v : Totals) → at t p ≡ Some (node.Dir m b) → n ≤ most_mode → Counts v t → Counts v (with_entry t p (node.Dir n c))
+-- a directory's meta or mark changes nothing
+pub counts_dir : (t : Tree) → IsLayer t → (p : Names) (m n : Meta) (b c : Bool) (v : Totals) → at t p ≡ Some (node.Dir m b) → IsMeta n → Counts v t → Counts v (with_entry t p (node.Dir n c))
 counts_dir t ok p m n b c v is low had = record {
   inodes = omega (arith, had.inodes, (dir_stays t ok p m n b c is low).count);
   blocks = omega (arith, had.blocks, block_count-with_entry t p (node.Dir n c) ok.sorted_paths, ap (weight dirs) is);
@@ -210,10 +210,10 @@ module _ (u : Tree) (ok : IsLayer u) (p : Names) (k : ℕ) (number : number_at u
     other_blocks = omega (arith, blocks-bodies_without (number_at u p) (outside p u.entries) u.bodies, blocks_by false (not_zero (name_count k (outside p u.entries)) others))
 
 -- the directory at a path
-pub dir_there : (t : Tree) (p : Names) → IsDirAt (at t p) → (m : ℕ) × (b : Bool) × (at t p ≡ Some (node.Dir m b))
+pub dir_there : (t : Tree) (p : Names) → IsDirAt (at t p) → (m : Meta) × (b : Bool) × (at t p ≡ Some (node.Dir m b))
 dir_there t p dir = by (at t p) refl dir
   where
-    by : (o : Option Node) → at t p ≡ o → IsDirAt o → (m : ℕ) × (b : Bool) × (at t p ≡ Some (node.Dir m b))
+    by : (o : Option Node) → at t p ≡ o → IsDirAt o → (m : Meta) × (b : Bool) × (at t p ≡ Some (node.Dir m b))
     by None is d = absurd d
     by (Some (node.Dir m b)) is d = (m, b, is)
     by (Some (node.File k)) is d = absurd (cc)

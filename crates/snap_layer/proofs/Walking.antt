@@ -37,7 +37,7 @@ use Rattle.snap_layer.proofs.Ahead.{passes_named, passes_path, passes_above, las
 -- what is found among the items of an inode is its entry
 pub items_entry : (o : Option Inode) (n : List ℕ) → lookup (is_at (name_cmp n)) (items_of o) ≡ entry_of o n
 items_entry None n = refl
-items_entry (Some (Dir mode opaque entries)) n = refl
+items_entry (Some (Dir meta opaque entries)) n = refl
 items_entry (Some (Leaf number links body)) n = refl
 
 or_true : (a b : Bool) → b ≡ true → (a || b) ≡ true

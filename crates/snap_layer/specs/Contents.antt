@@ -73,10 +73,10 @@ IsShort (Resize size) old = size ≤ most_bytes old
 
 -- what a file has
 abbrev pub body_content : Option Body → Content
-body_content (Some (body_kinds.File mode content)) = content
+body_content (Some (body_kinds.File meta content)) = content
 body_content other = Bytes []
 
 -- a file edited
 abbrev pub body_edited : Body → Edit → Body
-body_edited (body_kinds.File mode content) e = body_kinds.File mode (edited e content)
+body_edited (body_kinds.File meta content) e = body_kinds.File meta (edited e content)
 body_edited (body_kinds.Symlink target) e = body_kinds.Symlink target

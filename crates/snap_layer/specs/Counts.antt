@@ -34,7 +34,7 @@ most_file_blocks = blocks_of most_sized_bytes
 
 -- the blocks of a file, and none of a symlink
 abbrev pub body_blocks : Body → ℕ
-body_blocks (File mode content) = blocks_of (size_of content)
+body_blocks (File meta content) = blocks_of (size_of content)
 body_blocks (Symlink target) = 0
 
 -- a block for each directory, and those of each file however many names it has

@@ -18,7 +18,7 @@ pub record Directory : Type 0 where
 
 -- the directory that a node at the path is, if it is one
 abbrev pub dir_of : Tree → Names → Node → Option Directory
-dir_of t p (node.Dir mode opaque) = Some (record { layer = t; path = p })
+dir_of t p (node.Dir meta opaque) = Some (record { layer = t; path = p })
 dir_of t p other = None
 
 -- the node at a path, and the directory that it is

@@ -6,6 +6,7 @@ use Rattle.std.specs.Map.{remove_entry}
 use Rattle.std.specs.BTreeMap.{is_at, insert_entry}
 use Rattle.snap_path.specs.Text.{Names, IsPath, begins}
 use Rattle.snap_layer.specs.declared.content.Content.{Content}
+use Rattle.snap_layer.specs.declared.node.Meta.{Meta}
 use Rattle.snap_layer.specs.declared.node.Node.{Node}
 use Rattle.snap_layer.specs.declared.node.Node.TheVariants.{Dir, File, Whiteout}
 use Rattle.snap_layer.specs.declared.node.Body.{Body}
@@ -14,22 +15,22 @@ use Rattle.snap_layer.specs.Tree.{Tree, Entries, Bodies, path_cmp, at, body, num
 use Rattle.snap_layer.specs.Counts.{name_count, default_inodes}
 
 -- the layer of the root alone, which may have so many inodes, and whose first file gets the number
-abbrev pub root_within : ℕ → ℕ → ℕ → Tree
-root_within most mode first = record { entries = ([], Dir mode false) ∷ []; bodies = []; next = first; most = most }
+abbrev pub root_within : ℕ → Meta → ℕ → Tree
+root_within most meta first = record { entries = ([], Dir meta false) ∷ []; bodies = []; next = first; most = most }
 
 -- the same where no most inodes are asked
-abbrev pub root_only : ℕ → ℕ → Tree
-root_only mode first = root_within default_inodes mode first
+abbrev pub root_only : Meta → ℕ → Tree
+root_only meta first = root_within default_inodes meta first
 
 -- the layer with the node at the path
 abbrev pub with_entry : Tree → Names → Node → Tree
 with_entry t p n = record t { entries = insert_entry path_cmp t.entries p n }
 
--- the layer with a directory for each mode, one in the other, at the names that come next after the front
-abbrev pub with_dirs : Tree → Names → Names → List ℕ → Tree
-with_dirs t front [] modes = t
+-- the layer with a directory for each meta, one in the other, at the names that come next after the front
+abbrev pub with_dirs : Tree → Names → Names → List Meta → Tree
+with_dirs t front [] metas = t
 with_dirs t front (n ∷ names) [] = t
-with_dirs t front (n ∷ names) (mode ∷ modes) = with_dirs (with_entry t (front ++ n ∷ []) (Dir mode false)) (front ++ n ∷ []) names modes
+with_dirs t front (n ∷ names) (meta ∷ metas) = with_dirs (with_entry t (front ++ n ∷ []) (Dir meta false)) (front ++ n ∷ []) names metas
 
 -- the layer with the body under the number
 abbrev pub with_body : Tree → ℕ → Body → Tree
@@ -93,12 +94,16 @@ with_linked t p link b =
 
 -- the layer with another content of a file
 abbrev pub with_filled : Tree → ℕ → Option Body → Content → Tree
-with_filled t k (Some (body_kinds.File mode old)) content = with_body t k (body_kinds.File mode content)
+with_filled t k (Some (body_kinds.File meta old)) content = with_body t k (body_kinds.File meta content)
 with_filled t k other content = t
+
+-- the meta with another mode (chmod(2))
+abbrev pub meta_with_mode : Meta → ℕ → Meta
+meta_with_mode meta mode = record meta { mode = mode }
 
 -- a file with another mode
 abbrev pub body_with_mode : Body → ℕ → Body
-body_with_mode (body_kinds.File old content) mode = body_kinds.File mode content
+body_with_mode (body_kinds.File meta content) mode = body_kinds.File (meta_with_mode meta mode) content
 body_with_mode (body_kinds.Symlink target) mode = body_kinds.Symlink target
 
 -- the layer with another mode of a file
@@ -107,13 +112,13 @@ with_file_mode t k o mode = option_map_or (λ b. with_body t k (body_with_mode b
 
 -- the layer with another mode of the directory or the file at a path; all names of a file have its mode (chmod(2))
 abbrev pub with_mode : Tree → Names → Option Node → ℕ → Tree
-with_mode t p (Some (Dir old opaque)) mode = with_entry t p (Dir mode opaque)
+with_mode t p (Some (Dir meta opaque)) mode = with_entry t p (Dir (meta_with_mode meta mode) opaque)
 with_mode t p (Some (File k)) mode = with_file_mode t k (body t k) mode
 with_mode t p other mode = t
 
 -- the layer with the mark of the directory at a path
 abbrev pub with_opaque : Tree → Names → Option Node → Bool → Tree
-with_opaque t p (Some (Dir mode old)) opaque = with_entry t p (Dir mode opaque)
+with_opaque t p (Some (Dir meta old)) opaque = with_entry t p (Dir meta opaque)
 with_opaque t p other opaque = t
 
 -- the path with `to` in place of its front `from`
@@ -191,11 +196,11 @@ pub record IsMovable (t : Tree) (from to : Names) : Type 0 where
 
 -- a regular file
 abbrev pub IsRegular : Option Body → Type 0
-IsRegular (Some (body_kinds.File mode content)) = Unit {0}
+IsRegular (Some (body_kinds.File meta content)) = Unit {0}
 IsRegular other = ⊥
 
 -- a directory's or a file's mode may be set
 abbrev pub HasMode : Option Node → Type 0
-HasMode (Some (Dir mode opaque)) = Unit {0}
+HasMode (Some (Dir meta opaque)) = Unit {0}
 HasMode (Some (File number)) = Unit {0}
 HasMode other = ⊥

@@ -9,15 +9,20 @@ use mathlib.Core.Bool.{true≢false}
 use Rattle.snap_path.specs.Text.{Names}
 use Rattle.snap_layer.specs.declared.content.Content.{Content}
 use Rattle.snap_layer.specs.declared.content.Content.TheVariants.{Bytes, Sized}
+use Rattle.snap_layer.specs.declared.node.Meta.{Meta}
 use Rattle.snap_layer.specs.declared.node.Node.{Node}
 use Rattle.snap_layer.specs.declared.node.Node.TheVariants.{Dir, File, Symlink, Whiteout}
 use Rattle.snap_layer.specs.declared.node.Body.{Body}
 use Rattle.snap_layer.specs.declared.node.Body.TheVariants as body_kinds
 use Rattle.snap_layer.specs.Tree.{Tree}
 
--- two nodes of one kind with the same mode and mark, or the same number
+-- the same mode
+abbrev pub meta_eq : Meta → Meta → Bool
+meta_eq meta other = meta.mode == other.mode
+
+-- two nodes of one kind with the same meta and mark, or the same number
 abbrev pub node_eq : Node → Node → Bool
-node_eq (Dir mode opaque) (Dir other mark) = mode == other && beq opaque mark
+node_eq (Dir meta opaque) (Dir other mark) = meta_eq meta other && beq opaque mark
 node_eq (File number) (File other) = number == other
 node_eq (Symlink number) (Symlink other) = number == other
 node_eq Whiteout Whiteout = true
@@ -29,9 +34,9 @@ content_eq (Bytes bytes) (Bytes others) = pointwise nat_eq bytes others
 content_eq (Sized size digest) (Sized other others) = size == other && option_eq (pointwise nat_eq) digest others
 content_eq content other = false
 
--- two files with the same mode and content, or two symlinks with the same target
+-- two files with the same meta and content, or two symlinks with the same target
 abbrev pub body_eq : Body → Body → Bool
-body_eq (body_kinds.File mode content) (body_kinds.File other others) = mode == other && content_eq content others
+body_eq (body_kinds.File meta content) (body_kinds.File other others) = meta_eq meta other && content_eq content others
 body_eq (body_kinds.Symlink target) (body_kinds.Symlink other) = pointwise nat_eq target other
 body_eq body other = false
 
@@ -48,14 +53,21 @@ bytes_Decides = pointwise_decides unsigned_Decides
 names_Decides : (p q : Names) → Decides (pointwise (pointwise nat_eq) p q) (p ≡ q)
 names_Decides = pointwise_decides bytes_Decides
 
+-- two metas pass the test exactly where they are equal
+pub meta_eq-Decides : (m n : Meta) → Decides (meta_eq m n) (m ≡ n)
+meta_eq-Decides m n = (
+  (λ e i. record { mode = (unsigned_Decides m.mode n.mode).0 e i }),
+  λ e. (unsigned_Decides m.mode n.mode).1 (ap (λ (x : Meta). x.mode) e),
+)
+
 node_refl : (n : Node) → node_eq n n ≡ true
-node_refl (Dir mode opaque) = λ i. (unsigned_Decides mode mode).1 refl i && (booleans_Decides opaque opaque).1 refl i
+node_refl (Dir meta opaque) = λ i. (meta_eq-Decides meta meta).1 refl i && (booleans_Decides opaque opaque).1 refl i
 node_refl (File number) = (unsigned_Decides number number).1 refl
 node_refl (Symlink number) = (unsigned_Decides number number).1 refl
 node_refl Whiteout = refl
 
 node_same : (a b : Node) → node_eq a b ≡ true → a ≡ b
-node_same (Dir m o) (Dir n p) e = λ i. Dir ((unsigned_Decides m n).0 (first_so (m == n) (beq o p) e) i) ((booleans_Decides o p).0 (second_so (m == n) (beq o p) e) i)
+node_same (Dir m o) (Dir n p) e = λ i. Dir ((meta_eq-Decides m n).0 (first_so (meta_eq m n) (beq o p) e) i) ((booleans_Decides o p).0 (second_so (meta_eq m n) (beq o p) e) i)
 node_same (Dir m o) (File k) e = absurd (no e)
 node_same (Dir m o) (Symlink k) e = absurd (no e)
 node_same (Dir m o) Whiteout e = absurd (no e)
@@ -101,11 +113,11 @@ pub content_eq-Decides : (c d : Content) → Decides (content_eq c d) (c ≡ d)
 content_eq-Decides c d = (content_same c d, λ e. ap (λ (x : Content). content_eq x d) e ∙ content_refl d)
 
 body_refl : (b : Body) → body_eq b b ≡ true
-body_refl (body_kinds.File mode content) = λ i. (unsigned_Decides mode mode).1 refl i && content_refl content i
+body_refl (body_kinds.File meta content) = λ i. (meta_eq-Decides meta meta).1 refl i && content_refl content i
 body_refl (body_kinds.Symlink target) = (bytes_Decides target target).1 refl
 
 body_same : (a b : Body) → body_eq a b ≡ true → a ≡ b
-body_same (body_kinds.File m xs) (body_kinds.File n ys) e = λ i. body_kinds.File ((unsigned_Decides m n).0 (first_so (m == n) (content_eq xs ys) e) i) (content_same xs ys (second_so (m == n) (content_eq xs ys) e) i)
+body_same (body_kinds.File m xs) (body_kinds.File n ys) e = λ i. body_kinds.File ((meta_eq-Decides m n).0 (first_so (meta_eq m n) (content_eq xs ys) e) i) (content_same xs ys (second_so (meta_eq m n) (content_eq xs ys) e) i)
 body_same (body_kinds.File m xs) (body_kinds.Symlink ys) e = absurd (no e)
 body_same (body_kinds.Symlink xs) (body_kinds.File n ys) e = absurd (no e)
 body_same (body_kinds.Symlink xs) (body_kinds.Symlink ys) e = λ i. body_kinds.Symlink ((bytes_Decides xs ys).0 e i)

@@ -6,6 +6,7 @@ use Rattle.std.specs.List.Sorted.{IsStrictlySortedBy}
 use Rattle.std.specs.Map.{keys_of}
 use Rattle.snap_path.specs.Limits.{most_mode, most_number, most_target_bytes}
 use Rattle.snap_path.specs.Text.{Names, IsPath}
+use Rattle.snap_layer.specs.declared.node.Meta.{Meta}
 use Rattle.snap_layer.specs.declared.node.Node.{Node}
 use Rattle.snap_layer.specs.declared.node.Node.TheVariants.{Dir, File, Symlink, Whiteout}
 use Rattle.snap_layer.specs.declared.node.Body.{Body}
@@ -18,26 +19,30 @@ use Rattle.snap_layer.specs.Contents.{IsContent}
 abbrev pub is_target : List ℕ → Bool
 is_target bs = nat_lt 0 (length bs) && nat_le (length bs) most_target_bytes && not (list_any (λ b. b == 0) bs)
 
--- a file: its mode is at most octal 7777, and its content is within its limits
+-- what a directory or a file may have: its mode is at most octal 7777
+abbrev pub IsMeta : Meta → Type 0
+IsMeta meta = meta.mode ≤ most_mode
+
+-- a file: its meta is one, and its content is within its limits
 abbrev pub IsFile : Option Body → Type 0
 IsFile None = ⊥
-IsFile (Some (body_kinds.File mode content)) = (mode ≤ most_mode) × IsContent content
+IsFile (Some (body_kinds.File meta content)) = IsMeta meta × IsContent content
 IsFile (Some (body_kinds.Symlink target)) = ⊥
 
 -- a symlink with a target
 abbrev pub IsSymlink : Option Body → Type 0
 IsSymlink None = ⊥
-IsSymlink (Some (body_kinds.File mode content)) = ⊥
+IsSymlink (Some (body_kinds.File meta content)) = ⊥
 IsSymlink (Some (body_kinds.Symlink target)) = is_target target ≡ true
 
 -- a body that may stand in a layer: a file within its limits, or a symlink with a target
 abbrev pub IsBody : Body → Type 0
-IsBody (body_kinds.File mode content) = (mode ≤ most_mode) × IsContent content
+IsBody (body_kinds.File meta content) = IsMeta meta × IsContent content
 IsBody (body_kinds.Symlink target) = is_target target ≡ true
 
--- a node that may stand in the layer: a directory's mode is at most octal 7777, and a name has its body
+-- a node that may stand in the layer: a directory's meta is one, and a name has its body
 abbrev pub IsWhole : Tree → Node → Type 0
-IsWhole t (Dir mode opaque) = mode ≤ most_mode
+IsWhole t (Dir meta opaque) = IsMeta meta
 IsWhole t (File number) = IsFile (body t number)
 IsWhole t (Symlink number) = IsSymlink (body t number)
 IsWhole t Whiteout = Unit {0}

@@ -34,7 +34,7 @@ Items = List (List ℕ × Target)
 -- the items of a directory, and none of a leaf
 abbrev pub items_of : Option Inode → Items
 items_of None = []
-items_of (Some (Dir mode opaque entries)) = entries.entries
+items_of (Some (Dir meta opaque entries)) = entries.entries
 items_of (Some (Leaf number links body)) = []
 
 abbrev pub items_at : Slots Inode → ℕ → Items

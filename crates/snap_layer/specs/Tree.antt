@@ -42,7 +42,7 @@ body t k = lookup (is_at (nat_cmp k)) t.bodies
 
 -- a directory
 abbrev pub is_dir : Node → Bool
-is_dir (Dir mode opaque) = true
+is_dir (Dir meta opaque) = true
 is_dir other = false
 
 -- a whiteout: it hides its name in the layers below (overlayfs.rst, "whiteouts and opaque directories")
@@ -58,7 +58,7 @@ number_of other = None
 
 -- the node that names the file or symlink with the number
 abbrev pub leaf_node : ℕ → Body → Node
-leaf_node k (body_kinds.File mode content) = File k
+leaf_node k (body_kinds.File meta content) = File k
 leaf_node k (body_kinds.Symlink target) = Symlink k
 
 -- a node that names the file number
@@ -89,7 +89,7 @@ names_below d es = filter_map (name_below d) (keys_of es)
 -- what stands there hides what the layers below have under it: a whiteout, a non-directory, an opaque directory
 abbrev pub node_hides : Option Node → Bool
 node_hides None = false
-node_hides (Some (Dir mode opaque)) = opaque
+node_hides (Some (Dir meta opaque)) = opaque
 node_hides (Some other) = true
 
 -- the layer hides the path front ++ rest at the front, or at a longer proper prefix

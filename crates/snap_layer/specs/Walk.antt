@@ -6,6 +6,7 @@ use Rattle.std.specs.Cmp.Lexicographic.{slice_cmp}
 use Rattle.std.specs.BTreeMap.{is_at, insert_entry}
 use Rattle.slab.specs.Slab.{Slab as Slots, get}
 use Rattle.snap_path.specs.Text.{Names}
+use Rattle.snap_layer.specs.declared.node.Meta.{Meta}
 use Rattle.snap_layer.specs.declared.node.Node.{Node}
 use Rattle.snap_layer.specs.declared.node.Node.TheVariants as node
 use Rattle.snap_layer.specs.declared.node.Body.{Body}
@@ -34,25 +35,25 @@ walk e d (n ∷ ns) = follow (e d n) (λ c. walk e c ns) ns
 -- what an inode has at a name: a leaf has nothing
 abbrev pub entry_of : Option Inode → List ℕ → Option Target
 entry_of None n = None
-entry_of (Some (Dir mode opaque entries)) n = lookup (is_at (slice_cmp nat_cmp n)) entries.entries
+entry_of (Some (Dir meta opaque entries)) n = lookup (is_at (slice_cmp nat_cmp n)) entries.entries
 entry_of (Some (Leaf number links body)) n = None
 
 -- the node that an inode shows
 abbrev pub node_of : Option Inode → Option Node
 node_of None = None
-node_of (Some (Dir mode opaque entries)) = Some (node.Dir mode opaque)
+node_of (Some (Dir meta opaque entries)) = Some (node.Dir meta opaque)
 node_of (Some (Leaf number links body)) = Some (leaf_node number body)
 
 -- the body of a leaf
 abbrev pub body_of : Option Inode → Option Body
 body_of None = None
-body_of (Some (Dir mode opaque entries)) = None
+body_of (Some (Dir meta opaque entries)) = None
 body_of (Some (Leaf number links body)) = Some body
 
 -- the links of a leaf
 abbrev pub links_of : Option Inode → ℕ
 links_of None = 0
-links_of (Some (Dir mode opaque entries)) = 0
+links_of (Some (Dir meta opaque entries)) = 0
 links_of (Some (Leaf number links body)) = links
 
 -- the same of the inode with a key
@@ -92,11 +93,12 @@ node_shown nodes (Some (target.Inode c)) = nodes c
 abbrev pub stands : SlotView → ℕ → Names → Option Node
 stands s root p = node_shown s.nodes (walk s.entries root p)
 
--- what holds of each table: the root is a directory, what a path leads to is there, and no directory is reached by two paths
+-- what holds of each table: the root is a directory, what a path leads to is there, no directory is reached by two paths, and each inode is reached by one
 pub record IsTable (s : SlotView) (root : ℕ) : Type 0 where
   pub root_dir : IsDirAt (s.nodes root)
   pub there : (p : Names) (c : ℕ) → walk s.entries root p ≡ Some (target.Inode c) → IsSome (s.nodes c)
   pub forest : (p q : Names) (c : ℕ) → IsDirAt (s.nodes c) → walk s.entries root p ≡ Some (target.Inode c) → walk s.entries root q ≡ Some (target.Inode c) → p ≡ q
+  pub reached : (c : ℕ) → IsSome (s.nodes c) → (p : Names) × (walk s.entries root p ≡ Some (target.Inode c))
 
 -- a place where an entry may be put
 abbrev pub IsOpen : Option Target → Type 0
@@ -142,11 +144,11 @@ pub record Adds (s t : SlotView) (d : ℕ) (n : List ℕ) (k : ℕ) (v : Node) (
   pub bodies : (c : ℕ) → (c ≡ k → ⊥) → t.bodies c ≡ s.bodies c
   pub counts : (c : ℕ) → (c ≡ k → ⊥) → t.counts c ≡ s.counts c
 
--- t is s with a directory for each mode, one in the other, at the names that come next in the directory d
-abbrev pub AddsDirs : SlotView → SlotView → ℕ → Names → List ℕ → Type 0
-AddsDirs s t d [] modes = Same s t
+-- t is s with a directory for each meta, one in the other, at the names that come next in the directory d
+abbrev pub AddsDirs : SlotView → SlotView → ℕ → Names → List Meta → Type 0
+AddsDirs s t d [] metas = Same s t
 AddsDirs s t d (n ∷ names) [] = Same s t
-AddsDirs s t d (n ∷ names) (mode ∷ modes) = (between : SlotView) × (k : ℕ) × Adds s between d n k (node.Dir mode false) None 0 × AddsDirs between t k names modes
+AddsDirs s t d (n ∷ names) (meta ∷ metas) = (between : SlotView) × (k : ℕ) × Adds s between d n k (node.Dir meta false) None 0 × AddsDirs between t k names metas
 
 -- the directory has nothing at the first of the names
 abbrev pub IsVacantAt : SlotView → ℕ → Names → Type 0

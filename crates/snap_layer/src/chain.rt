@@ -5,7 +5,7 @@ ghost use Rattle.snap_layer.specs.Walk.{node_at, view_of, Same, Adds, AddsDirs, 
 
 use super::edit::{put_inode, unlink};
 use super::inode::Inode;
-use super::node::Node;
+use super::node::{Meta, Node};
 use slab::Slab;
 use snap_path::Name;
 use std::alloc::{AllocError, Global};
@@ -17,15 +17,15 @@ fn put_empty(
     alloc: Global,
     dir: usize,
     name: &Name,
-    mode: u32,
+    meta: Meta,
 ) -> Result<usize, AllocError>
     requires { IsDirAt (node_at slots.old dir) }
-    ensures ok { IfOk result (λ key. Adds (view_of slots.old) (view_of slots.new) dir name.now key (Node.Dir mode false) None 0) }
+    ensures ok { IfOk result (λ key. Adds (view_of slots.old) (view_of slots.new) dir name.now key (Node.Dir meta false) None 0) }
     ensures err { OnErr result (Same (view_of slots.old) (view_of slots.new)) }
 {
     let key = slots.vacant_key();
     let inode = Inode::Dir {
-        mode,
+        meta,
         opaque: false,
         entries: BTreeMap::new(alloc),
     };
@@ -33,28 +33,28 @@ fn put_empty(
     Ok(key)
 }
 
-/// Puts a directory for each mode, one in the other, at the names that come next in the directory, in which
+/// Puts a directory for each meta, one in the other, at the names that come next in the directory, in which
 /// nothing is at the first of them. Where memory is refused, it takes back what it has put, without memory.
 pub(crate) fn put_dirs(
     slots: &mut Slab<Inode>,
     alloc: Global,
     dir: usize,
     names: &[Name],
-    modes: &[u32],
+    metas: &[Meta],
 ) -> Result<(), AllocError>
     requires dir { IsDirAt (node_at slots.old dir) }
     requires vacant { IsVacantAt (view_of slots.old) dir names.now }
-    ensures ok { OnOk result (AddsDirs (view_of slots.old) (view_of slots.new) dir names.now modes.now) }
+    ensures ok { OnOk result (AddsDirs (view_of slots.old) (view_of slots.new) dir names.now metas.now) }
     ensures err { OnErr result (Same (view_of slots.old) (view_of slots.new)) }
 {
     let Some((name, names)) = names.split_first() else {
         return Ok(());
     };
-    let Some((mode, modes)) = modes.split_first() else {
+    let Some((meta, metas)) = metas.split_first() else {
         return Ok(());
     };
-    let key = put_empty(slots, alloc, dir, name, *mode)?;
-    match put_dirs(slots, alloc, key, names, modes) {
+    let key = put_empty(slots, alloc, dir, name, *meta)?;
+    match put_dirs(slots, alloc, key, names, metas) {
         Ok(()) => Ok(()),
         Err(refused) => {
             unlink(slots, dir, name);

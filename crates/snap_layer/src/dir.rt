@@ -16,7 +16,6 @@ ghost use Rattle.snap_layer.specs.contracts.inode.Target as target_contracts;
 
 use super::inode::{Inode, Target};
 use super::node::{Body, Node};
-use super::rows::show_items;
 use super::table::Table;
 use super::table::reads::names_in;
 use super::walk::{entry_at, node_of};
@@ -94,7 +93,7 @@ impl<'a> Dir<'a> {
         }
     }
 
-    /// The directory's own node, which is a directory with its mode and mark.
+    /// The directory's own node, which is a directory with its meta and mark.
     ///
     /// Takes no memory. The cost is constant.
     pub fn node(&self) -> Node
@@ -153,7 +152,6 @@ impl<'a> Dir<'a> {
     {
         let table = self.table;
         let target = Target::Inode(self.key);
-        show_items(self.slots, target);
         names_in(table.alloc, self.slots, target)
     }
 

@@ -16,7 +16,7 @@ ghost use Rattle.snap_layer.specs.declared.node.Body.{Body as BodyValue};
 
 use super::bytes::Edit;
 use super::inode::{Inode, Target};
-use super::node::{Body, Node};
+use super::node::{Body, Meta, Node};
 use super::walk::{entry_at as entry, number_at};
 use slab::Slab;
 use snap_path::Name;
@@ -408,21 +408,21 @@ pub(crate) fn set_mode(slots: &mut Slab<Inode>, key: usize, mode: u32)
     }
 }
 
-/// Sets the mode and the mark of the directory at the key.
-pub(crate) fn set_dir(slots: &mut Slab<Inode>, key: usize, mode: u32, opaque: bool)
+/// Sets the meta and the mark of the directory at the key.
+pub(crate) fn set_dir(slots: &mut Slab<Inode>, key: usize, meta: Meta, opaque: bool)
     requires { IsDirAt (node_at slots.old key) }
-    ensures { Renodes (view_of slots.old) (view_of slots.new) key (Node.Dir mode opaque) }
+    ensures { Renodes (view_of slots.old) (view_of slots.new) key (Node.Dir meta opaque) }
 {
     let Some(inode) = slots.get_mut(key) else {
         unreachable!()
     };
     match inode {
         Inode::Dir {
-            mode: own,
+            meta: own,
             opaque: mark,
             ..
         } => {
-            *own = mode;
+            *own = meta;
             *mark = opaque;
         }
         Inode::Leaf { .. } => unreachable!(),

@@ -9,7 +9,7 @@ ghost use Rattle.snap_layer.specs.Tree.{at, body, number_at, IsDirAt, leaf_node}
 ghost use Rattle.snap_layer.specs.Counts.{body_blocks, is_within, most_file_blocks};
 ghost use Rattle.snap_layer.specs.Contents.{body_content, edited, Grows, IsContent, IsShort};
 ghost use Rattle.snap_layer.specs.Totals.{path_count, fits, IsClear, IsRoom};
-ghost use Rattle.snap_layer.specs.Layers.{IsLayer, IsBody, is_target};
+ghost use Rattle.snap_layer.specs.Layers.{IsLayer, IsBody, IsMeta, is_target};
 ghost use Rattle.snap_layer.specs.declared.content.Content.{Content as ContentValue};
 ghost use Rattle.snap_layer.specs.Edits.{with_body, with_entry, with_dirs, with_node, with_new, with_name, named_node, with_filled, with_mode, with_opaque, with_moved, with_linked, with_tree_taken, without, without_tree, inside, HasRoom, HasRooms, HasPlace, IsInnerDir, IsTakeable, IsMovable, IsRegular, HasMode};
 
@@ -17,7 +17,7 @@ use super::bytes::Edit;
 use super::content::Content;
 use super::error::LayerError;
 use super::layer::Layer;
-use super::node::{Body, Bytes, Node};
+use super::node::{Body, Bytes, Meta, Node};
 use super::totals::{Totals, more_paths, paths_with};
 use snap_path::Path;
 use std::alloc::AllocError;
@@ -28,45 +28,45 @@ impl Layer {
     /// The conditions are those of `has_room`, and a mode of at most octal 7777. `LayerFull` where the
     /// layer would have more inodes than it may. `OutOfMemory` where memory is refused. After either the
     /// layer is as it was. Cost: as `at`.
-    pub fn add_dir(&mut self, path: &Path, mode: u32, opaque: bool) -> Result<(), LayerError>
+    pub fn add_dir(&mut self, path: &Path, meta: Meta, opaque: bool) -> Result<(), LayerError>
         requires room { HasRoom self.old path.now }
-        requires mode { mode ≤ most_mode }
-        ensures ok { OnOk result (self.new ≡ with_entry self.old path.now (Node.Dir mode opaque)) }
+        requires meta { IsMeta meta }
+        ensures ok { OnOk result (self.new ≡ with_entry self.old path.now (Node.Dir meta opaque)) }
         ensures layer { OnOk result (IsLayer self.new) }
-        ensures full { IsErrOf result LayerError.LayerFull ↔ (is_within (with_entry self.old path.now (Node.Dir mode opaque)) ≡ false) }
+        ensures full { IsErrOf result LayerError.LayerFull ↔ (is_within (with_entry self.old path.now (Node.Dir meta opaque)) ≡ false) }
         ensures err { OnErr result (self.new ≡ self.old) }
     {
         let room = self.room_for(path, 0, 1, 1)?;
-        self.table.put_dir(path, mode, opaque)?;
+        self.table.put_dir(path, meta, opaque)?;
         self.totals = room;
         Ok(())
     }
 
-    /// Adds a directory for each mode, none of them opaque, at the names of the path that come after so many: the first
+    /// Adds a directory for each meta, none of them opaque, at the names of the path that come after so many: the first
     /// where nothing stands, and each other one in the one before it.
     ///
     /// The conditions: a directory stands at the path of the first so many names, and nothing at that of one name more;
-    /// the path has a name for each mode; and each mode is at most octal 7777. `LayerFull` where the layer would have
+    /// the path has a name for each meta; and each mode is at most octal 7777. `LayerFull` where the layer would have
     /// more inodes than it may. `OutOfMemory` where memory is refused. After either the layer is as it was: what had
     /// been added is taken back, which takes no memory. Cost: as `at` for as many names, however many directories are
-    /// added; the calls nest as deep as there are modes.
-    pub fn add_dirs(&mut self, path: &Path, front: usize, modes: &[u32]) -> Result<(), LayerError>
-        requires within { front + length modes.now ≤ length path.now }
+    /// added; the calls nest as deep as there are metas.
+    pub fn add_dirs(&mut self, path: &Path, front: usize, metas: &[Meta]) -> Result<(), LayerError>
+        requires within { front + length metas.now ≤ length path.now }
         requires dir { IsDirAt (at self.old (take front path.now)) }
         requires bare { front < length path.now → at self.old (take (front + 1) path.now) ≡ None }
-        requires modes { AllByRecursion (λ m. m ≤ most_mode) modes.now }
-        ensures ok { OnOk result (self.new ≡ with_dirs self.old (take front path.now) (drop front path.now) modes.now) }
+        requires metas { AllByRecursion IsMeta metas.now }
+        ensures ok { OnOk result (self.new ≡ with_dirs self.old (take front path.now) (drop front path.now) metas.now) }
         ensures layer { OnOk result (IsLayer self.new) }
-        ensures full { IsErrOf result LayerError.LayerFull ↔ (is_within (with_dirs self.old (take front path.now) (drop front path.now) modes.now) ≡ false) }
+        ensures full { IsErrOf result LayerError.LayerFull ↔ (is_within (with_dirs self.old (take front path.now) (drop front path.now) metas.now) ≡ false) }
         ensures err { OnErr result (self.new ≡ self.old) }
     {
-        let _ = path.names();
-        let count = modes.len();
+        let count = metas.len();
+        prove!(path.names().len() - front >= count);
         if count > self.most_inodes() - self.inodes() {
             return Err(LayerError::LayerFull);
         }
         let paths = paths_with(self.totals.paths, count)?;
-        self.table.put_dirs(path, front, modes)?;
+        self.table.put_dirs(path, front, metas)?;
         self.totals = Totals {
             inodes: self.totals.inodes + count,
             blocks: self.totals.blocks + count as u64,
@@ -81,17 +81,17 @@ impl Layer {
     /// `LayerFull` where the layer would have more inodes than it may, or where the file numbers are used
     /// up. `OutOfMemory` where memory is refused. After either the layer is as it was, and the content is
     /// gone. Cost: as `at`, and where a directory stands there, its entries.
-    pub fn add_file(&mut self, path: &Path, mode: u32, content: Content) -> Result<u32, LayerError>
+    pub fn add_file(&mut self, path: &Path, meta: Meta, content: Content) -> Result<u32, LayerError>
         requires place { HasPlace self.old path.now }
-        requires mode { mode ≤ most_mode }
+        requires meta { IsMeta meta }
         requires content { IsContent content }
-        ensures ok { OnOk result (self.new ≡ with_new self.old path.now (Node.File self.old.next) (Body.File mode content)) }
+        ensures ok { OnOk result (self.new ≡ with_new self.old path.now (Node.File self.old.next) (Body.File meta content)) }
         ensures layer { OnOk result (IsLayer self.new) }
         ensures number { IfOk result (λ k. k ≡ self.old.next) }
-        ensures full { IsErrOf result LayerError.LayerFull ↔ (is_within (with_new self.old path.now (Node.File self.old.next) (Body.File mode content)) ≡ false) }
+        ensures full { IsErrOf result LayerError.LayerFull ↔ (is_within (with_new self.old path.now (Node.File self.old.next) (Body.File meta content)) ≡ false) }
         ensures err { OnErr result (self.new ≡ self.old) }
     {
-        self.add_body(path, Body::File { mode, content })
+        self.add_body(path, Body::File { meta, content })
     }
 
     /// Adds a symlink with the next number, in place of what stands at the path, and gives the number.
@@ -162,7 +162,7 @@ impl Layer {
         ensures full { IsErrOf result LayerError.LayerFull ↔ (is_within (with_linked self.old path.now link.now body) ≡ false) }
         ensures err { OnErr result (self.new ≡ self.old) }
     {
-        let _ = path.names();
+        prove!(!path.names().is_empty());
         let room = self.room_for(link, 1, 1, body.blocks())?;
         let paths = more_paths(room.paths, 1)?;
         self.table.put_linked(path, link, body)?;
@@ -293,9 +293,9 @@ impl Layer {
             return;
         };
         let freed = old.blocks();
-        if let Body::File { mode, .. } = old {
-            let mode = *mode;
-            self.fill(number, mode, freed, content);
+        if let Body::File { meta, .. } = old {
+            let meta = *meta;
+            self.fill(number, meta, freed, content);
         }
     }
 
@@ -329,8 +329,8 @@ impl Layer {
         ensures next { self.new ≡ with_opaque self.old path.now (at self.old path.now) opaque }
         ensures layer { IsLayer self.new }
     {
-        if let Some(Node::Dir { mode, .. }) = self.at(path) {
-            self.set_dir(path, mode, opaque);
+        if let Some(Node::Dir { meta, .. }) = self.at(path) {
+            self.set_dir(path, meta, opaque);
         }
     }
 
@@ -345,7 +345,7 @@ impl Layer {
         ensures layer { IsLayer self.new }
     {
         match self.at(path) {
-            Some(Node::Dir { opaque, .. }) => self.set_dir(path, mode, opaque),
+            Some(Node::Dir { meta, opaque }) => self.set_dir(path, Meta { mode, ..meta }, opaque),
             Some(Node::File { number }) => self.table.set_file_mode(number, mode),
             Some(Node::Symlink { .. }) => {}
             Some(Node::Whiteout) => {}
@@ -385,24 +385,24 @@ impl Layer {
         })
     }
 
-    /// Sets the mode and the mark of the directory at the path.
-    fn set_dir(&mut self, path: &Path, mode: u32, opaque: bool)
+    /// Sets the meta and the mark of the directory at the path.
+    fn set_dir(&mut self, path: &Path, meta: Meta, opaque: bool)
         requires dir { IsDirAt (at self.old path.now) }
-        requires mode { mode ≤ most_mode }
-        ensures next { self.new ≡ with_entry self.old path.now (Node.Dir mode opaque) }
+        requires meta { IsMeta meta }
+        ensures next { self.new ≡ with_entry self.old path.now (Node.Dir meta opaque) }
         ensures layer { IsLayer self.new }
     {
-        self.table.set_dir(path, mode, opaque);
+        self.table.set_dir(path, meta, opaque);
     }
 
-    /// Gives the file with the number, which has the mode and takes so many blocks, another content.
-    fn fill(&mut self, number: u32, mode: u32, freed: u64, content: Content)
-        requires there { (old : ContentValue) × (freed ≡ body_blocks (Body.File mode old)) × (body self.old number ≡ Some (Body.File mode old)) }
+    /// Gives the file with the number, which has the meta and takes so many blocks, another content.
+    fn fill(&mut self, number: u32, meta: Meta, freed: u64, content: Content)
+        requires there { (old : ContentValue) × (freed ≡ body_blocks (Body.File meta old)) × (body self.old number ≡ Some (Body.File meta old)) }
         requires content { IsContent content }
-        ensures next { self.new ≡ with_body self.old number (Body.File mode content) }
+        ensures next { self.new ≡ with_body self.old number (Body.File meta content) }
         ensures layer { IsLayer self.new }
     {
-        let new = Body::File { mode, content };
+        let new = Body::File { meta, content };
         let blocks = self.totals.blocks - freed + new.blocks();
         self.table.set_body(number, new);
         self.totals.blocks = blocks;

@@ -1,4 +1,4 @@
-use super::node::Body;
+use super::node::{Body, Meta};
 use snap_path::Name;
 use std::alloc::AllocError;
 use std::collections::BTreeMap;
@@ -12,7 +12,7 @@ pub enum Target {
 
 pub enum Inode {
     Dir {
-        mode: u32,
+        meta: Meta,
         opaque: bool,
         entries: BTreeMap<Name, Target>,
     },
@@ -28,7 +28,7 @@ impl Drop for Inode {
     fn drop(self) {
         match self {
             Inode::Dir {
-                mode: _,
+                meta: _,
                 opaque: _,
                 entries: _,
             } => {}
@@ -49,11 +49,11 @@ impl Clone for Inode {
     fn clone(&self) -> Result<Inode, AllocError> {
         match self {
             Inode::Dir {
-                mode,
+                meta,
                 opaque,
                 entries,
             } => Ok(Inode::Dir {
-                mode: *mode,
+                meta: *meta,
                 opaque: *opaque,
                 entries: entries.clone()?,
             }),

@@ -3,16 +3,16 @@ ghost use Rattle.std.specs.Prelude.{◌≡◌, ◌↔◌, ◌≤◌, ◌+◌, []
 ghost use Rattle.std.specs.Option.{option_copied};
 ghost use Rattle.std.specs.List.{sum_by};
 ghost use Rattle.std.specs.Map.{keys_of, values_of};
-ghost use Rattle.snap_path.specs.Limits.{most_mode, most_path_bytes};
+ghost use Rattle.snap_path.specs.Limits.{most_path_bytes};
 ghost use Rattle.snap_path.specs.Text.{Names, IsPath, text_below};
 ghost use Rattle.snap_layer.specs.Tree.{at, body, names_below, number_of, IsDirAt};
 ghost use Rattle.snap_layer.specs.Counts.{dir_count, whiteout_count, name_count, inode_count, block_count, body_blocks, most_inodes};
 ghost use Rattle.snap_layer.specs.Totals.{path_count, IsClear};
-ghost use Rattle.snap_layer.specs.Layers.{IsLayer};
+ghost use Rattle.snap_layer.specs.Layers.{IsLayer, IsMeta};
 ghost use Rattle.snap_layer.specs.Edits.{root_only, root_within, without, without_tree, HasParent, HasRoom, HasRooms, HasPlace, IsFree, IsTakeable, IsMovable};
 
 use super::dir::Dir;
-use super::node::{Body, Node};
+use super::node::{Body, Meta, Node};
 use super::table::Table;
 use super::totals::Totals;
 use snap_path::limits::DEFAULT_LAYER_INODES;
@@ -58,46 +58,46 @@ impl Layer {
     ///
     /// The condition is a mode of at most octal 7777. It fails only where memory is refused. The cost is
     /// constant.
-    pub fn empty(alloc: Global, mode: u32) -> Result<Layer, AllocError>
-        requires { mode ≤ most_mode }
-        ensures { IfOk result (λ l. l ≡ root_only mode 1) }
+    pub fn empty(alloc: Global, meta: Meta) -> Result<Layer, AllocError>
+        requires { IsMeta meta }
+        ensures { IfOk result (λ l. l ≡ root_only meta 1) }
     {
-        Layer::empty_from(alloc, mode, 1)
+        Layer::empty_from(alloc, meta, 1)
     }
 
     /// The same, of a layer that may have so many inodes, the root's one among them.
     ///
     /// The conditions are a mode of at most octal 7777, and 1 to 16,777,216 inodes. It fails only where memory is
     /// refused, and takes the same for each number of inodes. The cost is constant.
-    pub fn within(alloc: Global, mode: u32, most: usize) -> Result<Layer, AllocError>
-        requires mode { mode ≤ most_mode }
+    pub fn within(alloc: Global, meta: Meta, most: usize) -> Result<Layer, AllocError>
+        requires meta { IsMeta meta }
         requires most { (1 ≤ most) × (most ≤ most_inodes) }
-        ensures { IfOk result (λ l. l ≡ root_within most mode 1) }
+        ensures { IfOk result (λ l. l ≡ root_within most meta 1) }
     {
-        Layer::root_alone(alloc, mode, 1, most)
+        Layer::root_alone(alloc, meta, 1, most)
     }
 
     /// As `empty`, with the number of the first file.
     ///
     /// The conditions are a mode of at most octal 7777, and a number from 1. File numbers are given in
     /// rising order, and none is ever given again; 4,294,967,294 is the last one.
-    pub fn empty_from(alloc: Global, mode: u32, first: u32) -> Result<Layer, AllocError>
-        requires mode { mode ≤ most_mode }
+    pub fn empty_from(alloc: Global, meta: Meta, first: u32) -> Result<Layer, AllocError>
+        requires meta { IsMeta meta }
         requires first { 1 ≤ first }
-        ensures { IfOk result (λ l. l ≡ root_only mode first) }
+        ensures { IfOk result (λ l. l ≡ root_only meta first) }
     {
-        Layer::root_alone(alloc, mode, first, DEFAULT_LAYER_INODES)
+        Layer::root_alone(alloc, meta, first, DEFAULT_LAYER_INODES)
     }
 
     /// The layer of an empty root directory, which may have so many inodes, and whose first file gets the number.
-    fn root_alone(alloc: Global, mode: u32, first: u32, most: usize) -> Result<Layer, AllocError>
-        requires mode { mode ≤ most_mode }
+    fn root_alone(alloc: Global, meta: Meta, first: u32, most: usize) -> Result<Layer, AllocError>
+        requires meta { IsMeta meta }
         requires first { 1 ≤ first }
         requires most { (1 ≤ most) × (most ≤ most_inodes) }
-        ensures { IfOk result (λ l. l ≡ root_within most mode first) }
+        ensures { IfOk result (λ l. l ≡ root_within most meta first) }
     {
         Ok(Layer {
-            table: Table::new(alloc, mode, first, most)?,
+            table: Table::new(alloc, meta, first, most)?,
             totals: Totals {
                 inodes: 1,
                 blocks: 1,

@@ -30,5 +30,5 @@ pub use content::Content;
 pub use dir::Dir;
 pub use error::LayerError;
 pub use layer::Layer;
-pub use node::{Body, Bytes, Node};
+pub use node::{Body, Bytes, Meta, Node};
 pub use shared::Shared;

@@ -98,11 +98,18 @@ impl Eq for Bytes {
     ghost laws = { nat_list_eq_equiv };
 }
 
+/// What a directory or a regular file has besides its kind and what is in it (inode(7)).
+#[derive(Clone, Copy, Debug, PartialEq, Eq)]
+pub struct Meta {
+    /// The permission bits, at most octal 7777 (chmod(2)).
+    pub mode: u32,
+}
+
 /// What stands at a path of a layer.
 #[derive(Clone, Copy, Debug)]
 pub enum Node {
-    /// A directory. Its mode is at most octal 7777. An opaque one hides what the layers below have in it.
-    Dir { mode: u32, opaque: bool },
+    /// A directory. An opaque one hides what the layers below have in it.
+    Dir { meta: Meta, opaque: bool },
     /// A name of the regular file with the number.
     File { number: u32 },
     /// A name of the symlink with the number.
@@ -167,12 +174,12 @@ impl PartialEq for Node {
     fn eq(&self, other: &Node) -> bool {
         match (*self, *other) {
             (
-                Node::Dir { mode, opaque },
+                Node::Dir { meta, opaque },
                 Node::Dir {
-                    mode: other,
+                    meta: other,
                     opaque: mark,
                 },
-            ) => mode == other && opaque == mark,
+            ) => meta == other && opaque == mark,
             (Node::File { number }, Node::File { number: other }) => number == other,
             (Node::Symlink { number }, Node::Symlink { number: other }) => number == other,
             (Node::Whiteout, Node::Whiteout) => true,
@@ -190,8 +197,8 @@ impl Eq for Node {
 /// A file or a symlink, apart from its names.
 #[derive(Clone, Debug, Drop)]
 pub enum Body {
-    /// A regular file: a mode of at most octal 7777, and what it has.
-    File { mode: u32, content: Content },
+    /// A regular file, and its content.
+    File { meta: Meta, content: Content },
     /// A symlink, with a target of 1 to 4095 bytes without NUL.
     Symlink { target: Bytes },
 }
@@ -216,7 +223,7 @@ impl Body {
         ensures { self.new ≡ body_with_mode self.old mode }
     {
         match self {
-            Body::File { mode: own, .. } => *own = mode,
+            Body::File { meta, .. } => meta.mode = mode,
             Body::Symlink { .. } => {}
         }
     }
@@ -252,12 +259,12 @@ impl PartialEq for Body {
     fn eq(&self, other: &Body) -> bool {
         match (self, other) {
             (
-                Body::File { mode, content },
+                Body::File { meta, content },
                 Body::File {
-                    mode: other,
+                    meta: other,
                     content: others,
                 },
-            ) => *mode == *other && content == others,
+            ) => *meta == *other && content == others,
             (Body::Symlink { target }, Body::Symlink { target: other }) => target == other,
             _ => false,
         }

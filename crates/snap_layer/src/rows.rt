@@ -1,5 +1,5 @@
 // The entries of a table in order of paths.
-ghost use Rattle.std.specs.Prelude.{[], ◌≡◌, ◌≤◌, ◌+◌, ◌∷◌, ◌++◌, length, take, Some, MatchOption, IfSome, IfNone, IfOk, IsOk};
+ghost use Rattle.std.specs.Prelude.{[], ◌≡◌, ◌≤◌, ◌+◌, ◌∷◌, ◌++◌, length, take, ℕ, Some, MatchOption, IfSome, IfNone, IfOk, IsOk, IsSome};
 ghost use Rattle.std.specs.Option.{option_copied};
 ghost use Rattle.std.specs.List.Sorted.{IsStrictlySortedBy};
 ghost use Rattle.std.specs.Map.{keys_of};
@@ -134,37 +134,7 @@ fn enter<const ROOM: usize>(frames: &mut Frames<'_, ROOM>, target: Target)
     }
 }
 
-/// Shows a proof that the names of a directory's entries are in order. It changes nothing.
-fn show_names(entries: &BTreeMap<Name, Target>)
-    ensures { IsStrictlySortedBy name_cmp (keys_of entries.now.entries) }
-{
-    let _ = entries.len();
-}
-
-/// Shows the same of the items at a key.
-#[tactic(auto, using(crate::proofs::Inside::no_names))]
-fn show_order(slots: &Slab<Inode>, key: usize)
-    ensures { IsStrictlySortedBy name_cmp (keys_of (items_at slots.now key)) }
-{
-    match slots.get(key) {
-        Some(Inode::Dir { entries, .. }) => show_names(entries),
-        Some(Inode::Leaf { .. }) => {}
-        None => {}
-    }
-}
-
-/// Shows the same of the items of a target.
-#[tactic(auto, using(crate::proofs::Inside::no_names))]
-pub(crate) fn show_items(slots: &Slab<Inode>, target: Target)
-    ensures { IsStrictlySortedBy name_cmp (keys_of (items_in slots.now target)) }
-{
-    match target {
-        Target::Whiteout => {}
-        Target::Inode(key) => show_order(slots, key),
-    }
-}
-
-/// Enters the inode to which the path leads, and shows a proof that its items are in order.
+/// Enters the inode to which the path leads, whose items are in order.
 #[tactic(auto, using(crate::proofs::Inside::no_names))]
 fn enter_first<const ROOM: usize>(
     slots: &Slab<Inode>,
@@ -172,6 +142,7 @@ fn enter_first<const ROOM: usize>(
     front: &[Name],
     frames: &mut Frames<'_, ROOM>,
 )
+    requires there { (c : ℕ) → walk (entry_at slots.now) root front.now ≡ Some (Target.Inode c) → IsSome (node_at slots.now c) }
     requires none { frames.old.items ≡ [] }
     requires room { 1 ≤ frames.old.capacity }
     ensures frames { frames.new.items ≡ entered_from (walk (entry_at slots.now) root front.now) }
@@ -180,14 +151,16 @@ fn enter_first<const ROOM: usize>(
     ensures capacity { frames.new.capacity ≡ frames.old.capacity }
 {
     if let Some(target) = walk(slots, root, front) {
-        show_items(slots, target);
+        prove!(node_of_target(slots, target).is_some());
         enter(frames, target);
     }
 }
 
-/// The node of the target.
+/// The node of the target, whose items are in order.
+#[tactic(auto, using(crate::proofs::Inside::no_names))]
 pub(crate) fn node_of_target(slots: &Slab<Inode>, target: Target) -> Option<Node>
-    ensures { result ≡ node_shown (node_at slots.now) (Some target) }
+    ensures node { result ≡ node_shown (node_at slots.now) (Some target) }
+    ensures order { IsStrictlySortedBy name_cmp (keys_of (items_in slots.now target)) }
 {
     match target {
         Target::Whiteout => Some(Node::Whiteout),
@@ -279,7 +252,6 @@ impl<'a, const ROOM: usize> Rows<'a, ROOM> {
         };
         self.frames.reserve(1)?;
         let above = self.front.len() + (self.frames.len() - 1);
-        show_items(self.slots, target);
         let Some(node) = node_of_target(self.slots, target) else {
             unreachable!()
         };

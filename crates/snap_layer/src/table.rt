@@ -8,7 +8,7 @@ ghost use Rattle.snap_layer.specs.Tree.{Tree, at, body, number_at, IsDirAt, leaf
 ghost use Rattle.snap_layer.specs.Counts.{inode_count, name_count, body_blocks, most_inodes};
 ghost use Rattle.snap_layer.specs.Contents.{body_content, body_edited, Grows, IsShort};
 ghost use Rattle.snap_path.specs.Text.{IsPath};
-ghost use Rattle.snap_layer.specs.Layers.{IsLayer, IsFile};
+ghost use Rattle.snap_layer.specs.Layers.{IsLayer, IsFile, IsMeta};
 ghost use Rattle.snap_layer.specs.Edits.{root_within, with_body, with_entry, with_dirs, with_node, with_new, without, with_moved, with_file_mode, with_linked, HasPlace, HasRooms, IsTakeable, IsFree, HasParent, IsMovable};
 ghost use Rattle.snap_layer.specs.declared.node.Body.{Body as BodyValue};
 ghost use Rattle.snap_layer.specs.declared.node.Node.{Node as NodeValue};
@@ -27,7 +27,7 @@ use super::edit::{
     relocate, replace_name, set_body, set_dir, set_mode, take_target,
 };
 use super::inode::Inode;
-use super::node::{Body, Node};
+use super::node::{Body, Meta, Node};
 use super::walk::{dir_at, entry_at, parent_at, parent_of, stands};
 use slab::Slab;
 use snap_path::Path;
@@ -64,15 +64,15 @@ impl Model for Table {
 
 impl Table {
     /// The layer of the root alone, which may have so many inodes.
-    pub fn new(alloc: Global, mode: u32, first: u32, most: usize) -> Result<Table, AllocError>
-        requires mode { mode ≤ most_mode }
+    pub fn new(alloc: Global, meta: Meta, first: u32, most: usize) -> Result<Table, AllocError>
+        requires meta { IsMeta meta }
         requires first { 1 ≤ first }
         requires most { (1 ≤ most) × (most ≤ most_inodes) }
-        ensures { IfOk result (λ t. t ≡ root_within most mode first) }
+        ensures { IfOk result (λ t. t ≡ root_within most meta first) }
     {
         let mut slots = Slab::new(alloc);
         let root = slots.insert(Inode::Dir {
-            mode,
+            meta,
             opaque: false,
             entries: BTreeMap::new(alloc),
         })?;
@@ -167,35 +167,35 @@ impl Table {
     }
 
     /// Puts a directory where nothing or a whiteout stands.
-    pub fn put_dir(&mut self, path: &Path, mode: u32, opaque: bool) -> Result<(), AllocError>
+    pub fn put_dir(&mut self, path: &Path, meta: Meta, opaque: bool) -> Result<(), AllocError>
         requires free { IsFree (at self.old path.now) }
         requires above { HasParent self.old path.now }
-        requires layer { IsLayer (with_entry self.old path.now (Node.Dir mode opaque)) }
-        ensures ok { OnOk result (self.new ≡ with_entry self.old path.now (Node.Dir mode opaque)) }
+        requires layer { IsLayer (with_entry self.old path.now (Node.Dir meta opaque)) }
+        ensures ok { OnOk result (self.new ≡ with_entry self.old path.now (Node.Dir meta opaque)) }
         ensures err { OnErr result (self.new ≡ self.old) }
     {
         let (dir, name) = parent_at(&self.slots, self.root, path);
         let inode = Inode::Dir {
-            mode,
+            meta,
             opaque,
             entries: BTreeMap::new(self.alloc),
         };
         put_inode(&mut self.slots, dir, name, inode)
     }
 
-    /// Puts a directory for each mode, one in the other, at the names of the path that come after so many.
-    pub fn put_dirs(&mut self, path: &Path, front: usize, modes: &[u32]) -> Result<(), AllocError>
+    /// Puts a directory for each meta, one in the other, at the names of the path that come after so many.
+    pub fn put_dirs(&mut self, path: &Path, front: usize, metas: &[Meta]) -> Result<(), AllocError>
         requires within { front ≤ length path.now }
         requires dir { IsDirAt (at self.old (take front path.now)) }
         requires bare { front < length path.now → at self.old (take (front + 1) path.now) ≡ None }
-        requires modes { AllByRecursion (λ m. m ≤ most_mode) modes.now }
-        requires few { inode_count self.old + length modes.now ≤ self.old.most }
-        ensures ok { OnOk result (self.new ≡ with_dirs self.old (take front path.now) (drop front path.now) modes.now) }
+        requires metas { AllByRecursion IsMeta metas.now }
+        requires few { inode_count self.old + length metas.now ≤ self.old.most }
+        ensures ok { OnOk result (self.new ≡ with_dirs self.old (take front path.now) (drop front path.now) metas.now) }
         ensures err { OnErr result (self.new ≡ self.old) }
     {
         let names = path.names();
         let dir = dir_at(&self.slots, self.root, &names[..front]);
-        put_dirs(&mut self.slots, self.alloc, dir, &names[front..], modes)
+        put_dirs(&mut self.slots, self.alloc, dir, &names[front..], metas)
     }
 
     /// Puts a new file or symlink, which has the next number, in place of what stands at the path.
@@ -337,14 +337,14 @@ impl Table {
         )
     }
 
-    /// Sets the mode and the mark of the directory at the path.
-    pub fn set_dir(&mut self, path: &Path, mode: u32, opaque: bool)
+    /// Sets the meta and the mark of the directory at the path.
+    pub fn set_dir(&mut self, path: &Path, meta: Meta, opaque: bool)
         requires dir { IsDirAt (at self.old path.now) }
-        requires layer { IsLayer (with_entry self.old path.now (Node.Dir mode opaque)) }
-        ensures { self.new ≡ with_entry self.old path.now (Node.Dir mode opaque) }
+        requires layer { IsLayer (with_entry self.old path.now (Node.Dir meta opaque)) }
+        ensures { self.new ≡ with_entry self.old path.now (Node.Dir meta opaque) }
     {
         let dir = dir_at(&self.slots, self.root, path.names());
-        set_dir(&mut self.slots, dir, mode, opaque);
+        set_dir(&mut self.slots, dir, meta, opaque);
     }
 
     /// Sets the mode of the file with the number.

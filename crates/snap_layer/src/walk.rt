@@ -2,7 +2,10 @@ ghost use Rattle.std.specs.Prelude.{◌≡◌, ◌++◌, ◌∷◌, [], ℕ, Lis
 ghost use Rattle.snap_path.specs.Text.{Names, IsPath};
 ghost use Rattle.slab.specs.Slab.{get};
 ghost use Rattle.snap_layer.specs.Tree.{IsDirAt, number_of};
+ghost use Rattle.std.specs.List.Sorted.{IsStrictlySortedBy};
+ghost use Rattle.std.specs.Map.{keys_of};
 ghost use Rattle.snap_layer.specs.Walk.{walk, entry_at, node_of, node_at, stands, view_of};
+ghost use Rattle.snap_layer.specs.Rows.{name_cmp, items_at};
 
 use super::inode::{Inode, Target};
 use super::node::{Body, Node};
@@ -36,14 +39,26 @@ pub(crate) fn entry_at(slots: &Slab<Inode>, dir: usize, name: &Name) -> Option<T
     }
 }
 
+/// The node of the inode with the key, whose entries are in order.
+#[tactic(auto, using(crate::proofs::Inside::no_names))]
 pub(crate) fn node_of(slots: &Slab<Inode>, key: usize) -> Option<Node>
-    ensures { result ≡ node_of (get slots.now key) }
+    ensures node { result ≡ node_of (get slots.now key) }
+    ensures order { IsStrictlySortedBy name_cmp (keys_of (items_at slots.now key)) }
 {
     match slots.get(key) {
-        Some(Inode::Dir { mode, opaque, .. }) => Some(Node::Dir {
-            mode: *mode,
-            opaque: *opaque,
-        }),
+        Some(
+            Inode::Dir {
+                meta,
+                opaque,
+                entries,
+            },
+        ) => {
+            prove!(entries.len() < usize::MAX);
+            Some(Node::Dir {
+                meta: *meta,
+                opaque: *opaque,
+            })
+        }
         Some(Inode::Leaf { number, body, .. }) => match body {
             Body::File { .. } => Some(Node::File { number: *number }),
             Body::Symlink { .. } => Some(Node::Symlink { number: *number }),

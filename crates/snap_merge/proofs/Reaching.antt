@@ -5,6 +5,7 @@ use Rattle.std.specs.Option.{option_map}
 use Rattle.std.proofs.lemmas.Bool.Decides.{nat_tests}
 use Rattle.std.proofs.lemmas.List.{at_drop_more, take_more, take_all, take-take, take-append-drop, drop_all, length-take-le}
 use Rattle.snap_path.specs.Text.{Names}
+use Rattle.snap_layer.specs.declared.node.Meta.{Meta}
 use Rattle.snap_layer.specs.declared.content.Content.{Content}
 use Rattle.snap_layer.specs.declared.node.Node.{Node}
 use Rattle.snap_layer.specs.declared.node.Node.TheVariants.{Dir, File, Symlink, Whiteout}
@@ -308,7 +309,7 @@ module _ (s : List Tree) (p : Names) (k : ℕ) (o : Option Object) (reached : Re
     | inr within ↦ plain_reached s p k o reached some within ∙ ap (λ x. met x (plain_error s (take k p) (drop k p))) is
   ]
 
-  pub plain_dir : (m : ℕ) → o ≡ Some (dir m) → plain_error s [] p ≡ None
+  pub plain_dir : (m : Meta) → o ≡ Some (dir m) → plain_error s [] p ≡ None
   plain_dir m is = elim (split_lt (length p) k) [
     | inl lt ↦ plain_whole s p k o reached lt
     | inr within ↦ absurd (clash (sym (ap is_shown_dir is) ∙ reached.stops within))
@@ -320,13 +321,13 @@ module _ (s : List Tree) (p : Names) (k : ℕ) (o : Option Object) (reached : Re
     | inr within ↦ plain_reached s p k o reached some within ∙ ap (λ x. met x (plain_error s (take k p) (drop k p))) is
   ]
 
-  pub plain_at_file : (m : ℕ) (b : Content) → o ≡ Some (file m b) → length p ≤ k → plain_error s [] p ≡ None
+  pub plain_at_file : (m : Meta) (b : Content) → o ≡ Some (file m b) → length p ≤ k → plain_error s [] p ≡ None
   plain_at_file m b is le = elim (split_lt (length p) k) [
     | inl lt ↦ plain_whole s p k o reached lt
     | inr within ↦ plain_reached s p k o reached some within ∙ ap (λ x. met x (plain_error s (take k p) (drop k p))) is ∙ plain_end s p k le
   ]
 
-  pub plain_past_file : (m : ℕ) (b : Content) → o ≡ Some (file m b) → k < length p → plain_error s [] p ≡ Some NotDir
+  pub plain_past_file : (m : Meta) (b : Content) → o ≡ Some (file m b) → k < length p → plain_error s [] p ≡ Some NotDir
   plain_past_file m b is lt = plain_reached s p k o reached some (omega arith) ∙ ap (λ x. met x (plain_error s (take k p) (drop k p))) is ∙ plain_file s p k o reached lt
 
   -- the error is that of what is seen last, where no name may be left

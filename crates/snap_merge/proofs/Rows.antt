@@ -6,6 +6,7 @@ use Rattle.std.specs.List.{flat_map}
 use Rattle.std.specs.List.Sorted.{IsStrictlySortedBy}
 use Rattle.std.proofs.lemmas.List.{take_all, at_drop_more}
 use Rattle.snap_path.specs.Text.{Names}
+use Rattle.snap_layer.specs.declared.node.Meta.{Meta}
 use Rattle.snap_layer.specs.declared.node.Node.{Node}
 use Rattle.snap_layer.specs.declared.node.Node.TheVariants.{Dir, File, Symlink, Whiteout}
 use Rattle.snap_layer.specs.declared.node.Body.{Body}
@@ -16,13 +17,13 @@ use Rattle.snap_layer.specs.Directory.{Directory, dir_of, found}
 use Rattle.snap_layer.proofs.Laws.{names_below_are}
 use Rattle.snap_layer.proofs.Kept.{nothing_below}
 use Rattle.snap_merge.specs.declared.taken.Part.{Part}
-use Rattle.snap_merge.specs.Objects.{mode_of, modes_from, seen, seen_over, shown_body, AreLayers}
+use Rattle.snap_merge.specs.Objects.{meta_of, metas_from, no_meta, seen, seen_over, shown_body, AreLayers}
 use Rattle.snap_merge.specs.Reach.{Traced}
 use Rattle.snap_merge.specs.Shares.{has, is_there, Shares}
 use Rattle.snap_merge.specs.Listing.{put_names, names}
 use Rattle.snap_layer.specs.Rows.{name_cmp}
 use Rattle.snap_merge.specs.Taken.{part, part_over, parts_below, with_inside}
-use Rattle.snap_merge.specs.Row.{Row, dir_at, hides_inside, row, entry_in, next_dir, entry_hides, row_at, is_seen_over, is_seen_in, gathered_in, names_in, part_at, part_over_dir, part_in, parts_in, node_mode, mode_in, modes_in}
+use Rattle.snap_merge.specs.Row.{Row, dir_at, hides_inside, row, entry_in, next_dir, entry_hides, row_at, is_seen_over, is_seen_in, gathered_in, names_in, part_at, part_over_dir, part_in, parts_in, node_meta, meta_in, metas_in}
 use Rattle.snap_merge.proofs.Hiding.{hides_snoc}
 use Rattle.snap_merge.proofs.Reaching.{much_longer, split_lt, no_dir_none}
 use Rattle.snap_merge.proofs.Listings.{has_put_names, has_filter, sorted_put_names, sorted_filter, nothing_sorted, regrouped, kept, listing_is}
@@ -274,35 +275,35 @@ module _ (xs ys : Row) (d : Option Directory) (ds : Row) (n : List ℕ) (hides :
 pub rest_is : (r : Row) (i : ℕ) (d : Option Directory) → i < length r → d ≡ get_or r i d → drop i r ≡ d ∷ drop (i + 1) r
 rest_is r i d lt is = at_drop_more (λ (x : Row). x) r i d lt ∙ ap (λ (x : Option Directory). x ∷ drop (i + 1) r) (sym is)
 
--- ---- the modes
+-- ---- the metas
 
-no_mode : (o : Option Body) → mode_of (shown_body o) ≡ 0
-no_mode None = refl
-no_mode (Some (body_kinds.File mode content)) = refl
-no_mode (Some (body_kinds.Symlink target)) = refl
+no_meta_of : (o : Option Body) → meta_of (shown_body o) ≡ no_meta
+no_meta_of None = refl
+no_meta_of (Some (body_kinds.File meta content)) = refl
+no_meta_of (Some (body_kinds.Symlink target)) = refl
 
-none_in : (h : Bool) (r : Row) → mode_in (None ∷ cond (h || true) [] r) ≡ 0
+none_in : (h : Bool) (r : Row) → meta_in (None ∷ cond (h || true) [] r) ≡ no_meta
 none_in true r = refl
 none_in false r = refl
 
 -- the topmost directory of the row is the one that is seen
-pub mode_row : (s : List Tree) (p : Names) → mode_in (row s p) ≡ mode_of (seen s p)
-mode_row [] p = refl
-mode_row (t ∷ ts) p = by (at t p) refl (mode_row ts p)
+pub meta_row : (s : List Tree) (p : Names) → meta_in (row s p) ≡ meta_of (seen s p)
+meta_row [] p = refl
+meta_row (t ∷ ts) p = by (at t p) refl (meta_row ts p)
   where
-    shut : (h : Bool) → mode_in (row ts p) ≡ mode_of (seen ts p) → mode_in (None ∷ cond (h || false) [] (row ts p)) ≡ mode_of (cond h None (seen ts p))
+    shut : (h : Bool) → meta_in (row ts p) ≡ meta_of (seen ts p) → meta_in (None ∷ cond (h || false) [] (row ts p)) ≡ meta_of (cond h None (seen ts p))
     shut true later = refl
     shut false later = later
 
-    by : (o : Option Node) → at t p ≡ o → mode_in (row ts p) ≡ mode_of (seen ts p) → mode_in (option_and_then (dir_of t p) o ∷ cond (hides t p || node_hides o) [] (row ts p)) ≡ mode_of (seen_over t o p (seen ts p))
+    by : (o : Option Node) → at t p ≡ o → meta_in (row ts p) ≡ meta_of (seen ts p) → meta_in (option_and_then (dir_of t p) o ∷ cond (hides t p || node_hides o) [] (row ts p)) ≡ meta_of (seen_over t o p (seen ts p))
     by None e later = shut (hides t p) later
-    by (Some (Dir m b)) e later = ap node_mode e
-    by (Some (File k)) e later = none_in (hides t p) (row ts p) ∙ sym (no_mode (body t k))
-    by (Some (Symlink k)) e later = none_in (hides t p) (row ts p) ∙ sym (no_mode (body t k))
+    by (Some (Dir m b)) e later = ap node_meta e
+    by (Some (File k)) e later = none_in (hides t p) (row ts p) ∙ sym (no_meta_of (body t k))
+    by (Some (Symlink k)) e later = none_in (hides t p) (row ts p) ∙ sym (no_meta_of (body t k))
     by (Some Whiteout) e later = none_in (hides t p) (row ts p)
 
-pub modes_row : (s : List Tree) → AreLayers s → (front rest : Names) → modes_in (row s front) rest ≡ modes_from s front rest
-modes_row s ok front [] = refl
-modes_row s ok front (n ∷ rest) =
-    (λ i. mode_row s front i ∷ modes_in (row_more s ok front n i) rest)
-    ∙ ap (λ (ms : List ℕ). mode_of (seen s front) ∷ ms) (modes_row s ok (front ++ n ∷ []) rest)
+pub metas_row : (s : List Tree) → AreLayers s → (front rest : Names) → metas_in (row s front) rest ≡ metas_from s front rest
+metas_row s ok front [] = refl
+metas_row s ok front (n ∷ rest) =
+    (λ i. meta_row s front i ∷ metas_in (row_more s ok front n i) rest)
+    ∙ ap (λ (ms : List Meta). meta_of (seen s front) ∷ ms) (metas_row s ok (front ++ n ∷ []) rest)

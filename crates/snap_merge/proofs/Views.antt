@@ -45,7 +45,7 @@ layer_rules t p = record {
   hiding = (hidden_by t p, hides_from_above t p);
   whiteout = λ over under e. whited t p over under e;
   hidden = λ over under e. seen_under over (t ∷ under) (t ∷ []) p (alone t p under e);
-  directory = λ under mode opaque e. seen_node t under p (Dir mode opaque) e;
+  directory = λ under meta opaque e. seen_node t under p (Dir meta opaque) e;
   untouched = λ over under none e. seen_under over (t ∷ under) under p (seen_through t under p false none e);
   elsewhere = λ u under same. seen_alike t u under p same;
 }

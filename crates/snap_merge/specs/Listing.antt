@@ -29,7 +29,7 @@ names s p = filter (λ n. is_some (seen s (p ++ n ∷ []))) (gathered s p [])
 -- the names of what is seen, or why there are none
 abbrev pub names_of : List Tree → Names → Option Object → Result Names FsError
 names_of s p None = Err NotFound
-names_of s p (Some (dir mode)) = Ok (names s p)
+names_of s p (Some (dir meta)) = Ok (names s p)
 names_of s p (Some other) = Err NotDir
 
 -- the walk's error, or the names in the directory, or why there are none

@@ -11,8 +11,8 @@ use Rattle.snap_merge.specs.Walk.{walk_error, unless}
 -- the content of what is seen, or why it has none
 abbrev pub content_of : Option Object → Result Content FsError
 content_of None = Err NotFound
-content_of (Some (dir mode)) = Err IsDir
-content_of (Some (file mode content)) = Ok content
+content_of (Some (dir meta)) = Err IsDir
+content_of (Some (file meta content)) = Ok content
 content_of (Some (symlink target)) = Err Invalid
 
 -- the walk's error, or the content at the path, or why there is none

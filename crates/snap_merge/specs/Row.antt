@@ -2,12 +2,14 @@
 use Rattle.std.specs.Prelude.{ℕ, zero, suc, Bool, false, ◌||◌, if◌then◌else◌, List, [], ◌∷◌, ◌++◌, filter, Option, Some, None, is_some, option_and_then}
 use Rattle.std.specs.List.{flat_map}
 use Rattle.snap_path.specs.Text.{Names}
+use Rattle.snap_layer.specs.declared.node.Meta.{Meta}
 use Rattle.snap_layer.specs.declared.node.Node.{Node}
 use Rattle.snap_layer.specs.declared.node.Node.TheVariants.{Dir}
 use Rattle.snap_layer.specs.Tree.{Tree, at, hides, node_hides, names_below}
 use Rattle.snap_layer.specs.Directory.{Directory, dir_of, entry}
 use Rattle.snap_merge.specs.declared.taken.Part.{Part}
 use Rattle.snap_merge.specs.Listing.{put_names}
+use Rattle.snap_merge.specs.Objects.{no_meta}
 use Rattle.snap_merge.specs.Shares.{is_shown}
 use Rattle.snap_merge.specs.Taken.{part_of, with_inside}
 
@@ -92,18 +94,18 @@ unfoldable pub parts_in : ℕ → Row → List Part
 parts_in zero r = []
 parts_in (suc k) r = flat_map (λ n. with_inside (parts_in k (row_at r n)) (part_in 0 r n)) (names_in r)
 
--- the mode of a node that is a directory
-abbrev pub node_mode : Option Node → ℕ
-node_mode (Some (Dir mode opaque)) = mode
-node_mode other = 0
+-- the meta of a node that is a directory
+abbrev pub node_meta : Option Node → Meta
+node_meta (Some (Dir meta opaque)) = meta
+node_meta other = no_meta
 
--- the mode of the directory that is seen: the topmost one's
-abbrev pub mode_in : Row → ℕ
-mode_in [] = 0
-mode_in (None ∷ ds) = mode_in ds
-mode_in (Some d ∷ ds) = node_mode (at d.layer d.path)
+-- the meta of the directory that is seen: the topmost one's
+abbrev pub meta_in : Row → Meta
+meta_in [] = no_meta
+meta_in (None ∷ ds) = meta_in ds
+meta_in (Some d ∷ ds) = node_meta (at d.layer d.path)
 
--- the modes of the directories that are seen there and at each of the names but the last, one in the other
-abbrev pub modes_in : Row → Names → List ℕ
-modes_in r [] = []
-modes_in r (n ∷ names) = mode_in r ∷ modes_in (row_at r n) names
+-- the metas of the directories that are seen there and at each of the names but the last, one in the other
+abbrev pub metas_in : Row → Names → List Meta
+metas_in r [] = []
+metas_in r (n ∷ names) = meta_in r ∷ metas_in (row_at r n) names

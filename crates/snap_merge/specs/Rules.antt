@@ -1,6 +1,7 @@
 -- The rules of overlayfs.rst, which `seen` keeps.
 use Rattle.std.specs.Prelude.{◌≡◌, ◌↔◌, ℕ, Bool, true, false, List, [], ◌∷◌, ◌++◌, Some, None, Ok}
 use Rattle.snap_path.specs.Text.{Names}
+use Rattle.snap_layer.specs.declared.node.Meta.{Meta}
 use Rattle.snap_layer.specs.declared.node.Node.{Node}
 use Rattle.snap_layer.specs.declared.node.Node.TheVariants.{Dir, Whiteout}
 use Rattle.snap_layer.specs.Tree.{Tree, at, hides, node_hides}
@@ -26,8 +27,8 @@ pub record LayerRules (t : Tree) (p : Names) : Type 0 where
   pub whiteout : (over under : List Tree) → at t p ≡ Some Whiteout → seen (over ++ t ∷ under) p ≡ seen over p
   -- in an opaque directory, and below any other node that hides, the layers below show nothing
   pub hidden : (over under : List Tree) → hides t p ≡ true → seen (over ++ t ∷ under) p ≡ seen (over ++ t ∷ []) p
-  -- a directory shows its own mode, opaque or not, whatever is below (overlayfs.rst, "Directories")
-  pub directory : (under : List Tree) (mode : ℕ) (opaque : Bool) → at t p ≡ Some (Dir mode opaque) → seen (t ∷ under) p ≡ Some (dir mode)
+  -- a directory shows its own meta, opaque or not, whatever is below (overlayfs.rst, "Directories")
+  pub directory : (under : List Tree) (meta : Meta) (opaque : Bool) → at t p ≡ Some (Dir meta opaque) → seen (t ∷ under) p ≡ Some (dir meta)
   -- a layer that has nothing at the path, and nothing that hides it, changes nothing there
   pub untouched : (over under : List Tree) → at t p ≡ None → hides t p ≡ false → seen (over ++ t ∷ under) p ≡ seen (over ++ under) p
   -- what is seen at a path depends on what the layer has at the path and above it, and on nothing else

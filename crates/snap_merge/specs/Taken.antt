@@ -26,7 +26,7 @@ file_at place t number = parts.File (record { place = place; number = number; bl
 
 -- what a layer's node shows; a whiteout shows nothing
 abbrev pub part_of : ℕ → Tree → Node → Option Part
-part_of place t (Dir mode opaque) = Some parts.Dir
+part_of place t (Dir meta opaque) = Some parts.Dir
 part_of place t (File number) = Some (file_at place t number)
 part_of place t (Symlink number) = Some (file_at place t number)
 part_of place t Whiteout = None

@@ -10,7 +10,7 @@ use Rattle.snap_merge.specs.Objects.{Object, dir, seen}
 -- the error where no directory is seen, or that of the walk from there on
 abbrev pub walk_on : Option Object → Option FsError → Option FsError
 walk_on None later = Some NotFound
-walk_on (Some (dir mode)) later = later
+walk_on (Some (dir meta)) later = later
 walk_on (Some other) later = Some NotDir
 
 -- the first error at the front and the longer proper prefixes of front ++ rest

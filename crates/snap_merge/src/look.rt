@@ -9,16 +9,16 @@ ghost use Rattle.snap_merge.specs.Shares.{Shares};
 ghost use Rattle.snap_merge.specs.Row.{dir_at, hides_inside};
 ghost use Rattle.snap_merge.specs.Rules.{LayerRules};
 
-use snap_layer::{Body, Content, Dir, Layer, Node, Shared};
+use snap_layer::{Body, Content, Dir, Layer, Meta, Node, Shared};
 use snap_path::{Name, Path};
 
 /// What is seen at a path. Contents and targets are lent by the layer that has them.
 #[derive(Clone, Copy, Debug)]
 pub enum Seen<'a> {
-    /// A directory. Where several layers have it, the mode is the topmost one's.
-    Dir { mode: u32 },
+    /// A directory. Where several layers have it, the meta is the topmost one's.
+    Dir { meta: Meta },
     /// A regular file.
-    File { mode: u32, content: &'a Content },
+    File { meta: Meta, content: &'a Content },
     /// A symlink.
     Symlink { target: &'a [u8] },
 }
@@ -223,7 +223,7 @@ fn shown_at<'a>(layer: &'a Layer, node: Node) -> Option<Seen<'a>>
     ensures { option_map object result ≡ shown layer.now node }
 {
     match node {
-        Node::Dir { mode, .. } => Some(Seen::Dir { mode }),
+        Node::Dir { meta, .. } => Some(Seen::Dir { meta }),
         Node::File { number } => shown_body(layer, number),
         Node::Symlink { number } => shown_body(layer, number),
         Node::Whiteout => None,
@@ -235,8 +235,8 @@ fn shown_body<'a>(layer: &'a Layer, number: u32) -> Option<Seen<'a>>
     ensures { option_map object result ≡ shown_body (body layer.now number) }
 {
     match layer.body(number)? {
-        Body::File { mode, content } => Some(Seen::File {
-            mode: *mode,
+        Body::File { meta, content } => Some(Seen::File {
+            meta: *meta,
             content,
         }),
         Body::Symlink { target } => Some(Seen::Symlink {

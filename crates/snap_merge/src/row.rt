@@ -2,21 +2,24 @@
 // the root.
 ghost use Rattle.std.specs.Prelude.{◌≡◌, ◌≤◌, ◌∷◌, ◌++◌, [], ℕ, List, Bool, not, length, take, drop, OnOk, IfOk};
 ghost use Rattle.snap_layer.specs.Tree.{at};
-ghost use Rattle.snap_merge.specs.Objects.{modes_from};
+ghost use Rattle.snap_merge.specs.Objects.{metas_from};
 ghost use Rattle.snap_merge.specs.Shares.{has, seen_so_far};
-ghost use Rattle.snap_merge.specs.Row.{dir_at, entry_hides, entry_in, hides_inside, is_seen_in, is_seen_over, mode_in, modes_in, names_in, next_dir, node_mode, row, row_at};
+ghost use Rattle.snap_merge.specs.Row.{dir_at, entry_hides, entry_in, hides_inside, is_seen_in, is_seen_over, meta_in, metas_in, names_in, next_dir, node_meta, row, row_at};
 
 use super::look::{node_hides, share_in};
 use super::names::put_dir;
 use super::stack::Stack;
 use smallvec::SmallVec;
-use snap_layer::{Dir, Layer, Node, Shared};
+use snap_layer::{Dir, Layer, Meta, Node, Shared};
 use snap_path::{Name, Path};
 use std::alloc::{AllocError, Global};
 use std::collections::BTreeSet;
 
 /// A row of at most so many directories takes no memory.
 const INLINE_DIRS: usize = 16;
+
+/// The meta of a directory that isn't there.
+const NO_META: Meta = Meta { mode: 0 };
 
 /// The directories of the layers at one path, the top one first. It has `None` for a layer that has none there, and no
 /// place for the layers below one that hides what they have.
@@ -38,36 +41,36 @@ impl<'a> Stack<'a> {
         Ok(rows)
     }
 
-    /// The modes of the directories that are seen above the path, from that of its first so many names on; 0 where
-    /// none is seen.
+    /// The metas of the directories that are seen above the path, from that of its first so many names on; one of
+    /// mode 0 where none is seen.
     ///
     /// The condition is that the path has as many names. It fails only where memory is refused. Cost: one walk to the
     /// path in each layer.
-    pub fn modes(&self, alloc: Global, path: &Path, front: usize) -> Result<Vec<u32>, AllocError>
+    pub fn metas(&self, alloc: Global, path: &Path, front: usize) -> Result<Vec<Meta>, AllocError>
         requires { front ≤ length path.now }
-        ensures { IfOk result (λ modes. modes.items ≡ modes_from self.now (take front path.now) (drop front path.now)) }
+        ensures { IfOk result (λ metas. metas.items ≡ metas_from self.now (take front path.now) (drop front path.now)) }
     {
         self.show_are_layers();
         let names = path.names();
         let row = self.row(alloc, &names[..front])?;
-        let mut modes = Vec::new(alloc);
-        put_modes(alloc, row, &names[front..], &mut modes)?;
-        Ok(modes)
+        let mut metas = Vec::new(alloc);
+        put_metas(alloc, row, &names[front..], &mut metas)?;
+        Ok(metas)
     }
 }
 
-/// Puts the modes of the directory that has the row, and of those at the names but the last, one in the other, last.
-fn put_modes(
+/// Puts the metas of the directory that has the row, and of those at the names but the last, one in the other, last.
+fn put_metas(
     alloc: Global,
     row: Row<'_>,
     names: &[Name],
-    modes: &mut Vec<u32>,
+    metas: &mut Vec<Meta>,
 ) -> Result<(), AllocError>
-    ensures { OnOk result (modes.new.items ≡ modes.old.items ++ modes_in row.entry.items names.now) }
+    ensures { OnOk result (metas.new.items ≡ metas.old.items ++ metas_in row.entry.items names.now) }
 {
     let mut row = row;
     for name in names {
-        modes.push(mode_in(row.as_slice()))?;
+        metas.push(meta_in(row.as_slice()))?;
         let mut next = SmallVec::new(alloc);
         put_row(&mut next, row.as_slice(), name)?;
         row = next;
@@ -75,24 +78,24 @@ fn put_modes(
     Ok(())
 }
 
-/// The mode of the directory that is seen: the topmost one's.
-fn mode_in(row: &[Option<Dir<'_>>]) -> u32
-    ensures { result ≡ mode_in row.now }
+/// The meta of the directory that is seen: the topmost one's.
+fn meta_in(row: &[Option<Dir<'_>>]) -> Meta
+    ensures { result ≡ meta_in row.now }
 {
     for dir in row {
         if let Some(dir) = dir {
-            return mode_of(dir);
+            return meta_of(dir);
         }
     }
-    0
+    NO_META
 }
 
-/// The mode of the directory.
-fn mode_of(dir: &Dir<'_>) -> u32
-    ensures { result ≡ node_mode (at dir.now.layer dir.now.path) }
+/// The meta of the directory.
+fn meta_of(dir: &Dir<'_>) -> Meta
+    ensures { result ≡ node_meta (at dir.now.layer dir.now.path) }
 {
     match dir.node() {
-        Node::Dir { mode, .. } => mode,
+        Node::Dir { meta, .. } => meta,
         Node::File { .. } => unreachable!(),
         Node::Symlink { .. } => unreachable!(),
         Node::Whiteout => unreachable!(),

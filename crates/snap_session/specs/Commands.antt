@@ -182,9 +182,9 @@ batch_as whole session namespace key slot id need ops w = let after = batch sess
 
 -- what is seen, as answers have it: of a file how many bytes it has, and its digest where they aren't kept
 abbrev pub shown_of : Object → Shown
-shown_of (dir mode) = shown.Dir mode
-shown_of (file mode (contents.Bytes bytes)) = shown.File mode (length bytes)
-shown_of (file mode (contents.Sized size digest)) = shown.Sized mode size digest
+shown_of (dir meta) = shown.Dir meta.mode
+shown_of (file meta (contents.Bytes bytes)) = shown.File meta.mode (length bytes)
+shown_of (file meta (contents.Sized size digest)) = shown.Sized meta.mode size digest
 shown_of (symlink target) = shown.Symlink target
 
 -- a file that is read: what is told of its bytes, or its size and its digest, where they aren't kept

@@ -4,7 +4,7 @@ ghost use Rattle.snap_merge.specs.Objects.{file, object};
 ghost use Rattle.snap_script.specs.declared.answer.Answer.TheVariants as answers;
 ghost use Rattle.snap_session.specs.Commands.{layers_at, read_of, shown_of, looked_up, lookup};
 
-use snap_layer::{Bytes, Content};
+use snap_layer::{Bytes, Content, Meta};
 use snap_ledger::StoreName;
 use snap_merge::{FsError, Seen, Stack};
 use snap_path::Path;
@@ -21,8 +21,8 @@ fn shown_of(alloc: Global, seen: Seen<'_>) -> Result<Shown, AllocError>
     ensures { IfOk result (λ shown. shown ≡ shown_of (object seen.entry)) }
 {
     match seen {
-        Seen::Dir { mode } => Ok(Shown::Dir { mode }),
-        Seen::File { mode, content } => shown_file(alloc, mode, content),
+        Seen::Dir { meta } => Ok(Shown::Dir { mode: meta.mode }),
+        Seen::File { meta, content } => shown_file(alloc, meta, content),
         Seen::Symlink { target } => Ok(Shown::Symlink {
             target: Bytes::copy_of(alloc, target)?,
         }),
@@ -30,16 +30,16 @@ fn shown_of(alloc: Global, seen: Seen<'_>) -> Result<Shown, AllocError>
 }
 
 // A file that is seen, with its own digest.
-fn shown_file(alloc: Global, mode: u32, content: &Content) -> Result<Shown, AllocError>
-    ensures { IfOk result (λ shown. shown ≡ shown_of (file mode content.now)) }
+fn shown_file(alloc: Global, meta: Meta, content: &Content) -> Result<Shown, AllocError>
+    ensures { IfOk result (λ shown. shown ≡ shown_of (file meta content.now)) }
 {
     match content {
         Content::Bytes(_) => Ok(Shown::File {
-            mode,
+            mode: meta.mode,
             size: content.size(),
         }),
         Content::Sized { size, digest } => Ok(Shown::Sized {
-            mode,
+            mode: meta.mode,
             size: *size,
             digest: digest.clone()?,
         }),

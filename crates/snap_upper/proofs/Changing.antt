@@ -6,6 +6,7 @@ use Rattle.std.specs.Ordering.{nat_cmp}
 use Rattle.std.specs.Map.{lookup}
 use Rattle.std.specs.BTreeMap.{is_at}
 use Rattle.snap_path.specs.Text.{Names}
+use Rattle.snap_layer.specs.declared.node.Meta.{Meta}
 use Rattle.snap_layer.specs.declared.node.Node.{Node}
 use Rattle.snap_layer.specs.declared.node.Node.TheVariants.{Dir, File, Symlink, Whiteout}
 use Rattle.snap_layer.specs.declared.content.Content.{Content}
@@ -15,7 +16,7 @@ use Rattle.snap_layer.specs.declared.node.Body.TheVariants as body_kinds
 use Rattle.snap_layer.specs.Tree.{Tree, Bodies, at, body, number_at, number_of, node_hides}
 use Rattle.snap_layer.specs.Counts.{is_within}
 use Rattle.snap_layer.specs.Layers.{IsLayer}
-use Rattle.snap_layer.specs.Edits.{IsFree, HasMode, with_entry, with_new, with_body, with_mode, with_file_mode}
+use Rattle.snap_layer.specs.Edits.{IsFree, HasMode, with_entry, with_new, with_body, with_mode, with_file_mode, meta_with_mode}
 use Rattle.snap_layer.proofs.Setting.{file_body}
 use Rattle.snap_layer.proofs.Looks.{Sets-with_entry, SetsBody-with_body}
 use Rattle.snap_layer.proofs.Kept.{node_with_number}
@@ -53,7 +54,7 @@ none_from (Some o) e = absurd (cc)
 
 -- ---- a directory
 
-hides_alike : (o : Option Node) (m : ℕ) → IsFree o → node_hides (Some (Dir m (is_whiteout_at o))) ≡ node_hides o
+hides_alike : (o : Option Node) (m : Meta) → IsFree o → node_hides (Some (Dir m (is_whiteout_at o))) ≡ node_hides o
 hides_alike None m free = refl
 hides_alike (Some (Dir n b)) m free = absurd (cc)
 hides_alike (Some (File k)) m free = absurd (cc)
@@ -61,9 +62,9 @@ hides_alike (Some (Symlink k)) m free = absurd (cc)
 hides_alike (Some Whiteout) m free = refl
 
 mkdir_changes : (u : Tree) (ls : List Tree) (p : Names) (m : ℕ) → IsLayer u → first_error (tests (op.Mkdir p m) (u ∷ ls)) ≡ None
-    → ShowsAt (seen (u ∷ ls)) (seen (next_layer (op.Mkdir p m) u ls ∷ ls)) p (Some (dir m))
+    → ShowsAt (seen (u ∷ ls)) (seen (next_layer (op.Mkdir p m) u ls ∷ ls)) p (Some (dir (record { mode = m })))
 mkdir_changes u ls p m ok passes = record {
-  here = seen_node v ls p (Dir m opaque) (Sets-with_entry t p (Dir m opaque)).here;
+  here = seen_node v ls p (Dir (record { mode = m }) opaque) (Sets-with_entry t p (Dir (record { mode = m }) opaque)).here;
   others = λ q apart. seen-put_alike t v ls p puts hides q apart ∙ parents.view q;
 }
   where
@@ -77,30 +78,30 @@ mkdir_changes u ls p m ok passes = record {
     t = with_parents u ls p
 
     v : Tree
-    v = with_entry (with_parents u ls p) p (Dir m (is_whiteout_at (at u p)))
+    v = with_entry (with_parents u ls p) p (Dir (record { mode = m }) (is_whiteout_at (at u p)))
 
     parents : AddsParents u (with_parents u ls p) ls (length p)
     parents = adds_parents u ls p new.way
 
-    puts : Puts (with_parents u ls p) (with_entry (with_parents u ls p) p (Dir m (is_whiteout_at (at u p)))) p
-    puts = record { others = λ q apart. (Sets-with_entry t p (Dir m opaque)).others q apart; shows = λ q n apart e. shown_same t v n (λ j is. refl) }
+    puts : Puts (with_parents u ls p) (with_entry (with_parents u ls p) p (Dir (record { mode = m }) (is_whiteout_at (at u p)))) p
+    puts = record { others = λ q apart. (Sets-with_entry t p (Dir (record { mode = m }) opaque)).others q apart; shows = λ q n apart e. shown_same t v n (λ j is. refl) }
 
-    hides : node_hides (at (with_entry (with_parents u ls p) p (Dir m (is_whiteout_at (at u p)))) p) ≡ node_hides (at (with_parents u ls p) p)
+    hides : node_hides (at (with_entry (with_parents u ls p) p (Dir (record { mode = m }) (is_whiteout_at (at u p)))) p) ≡ node_hides (at (with_parents u ls p) p)
     hides =
-        ap node_hides (Sets-with_entry t p (Dir m opaque)).here
-        ∙ hides_alike (at u p) m (free_unseen u ls p ok new.unseen)
+        ap node_hides (Sets-with_entry t p (Dir (record { mode = m }) opaque)).here
+        ∙ hides_alike (at u p) (record { mode = m }) (free_unseen u ls p ok new.unseen)
         ∙ sym (ap node_hides (parents.leaves p (omega arith)))
 
 -- ---- a new file
 
 create_changes : (u : Tree) (ls : List Tree) (p : Names) (m : ℕ) → IsLayer u → AreLayers ls → first_error (tests (op.Create p m) (u ∷ ls)) ≡ None
-    → ShowsAt (seen (u ∷ ls)) (seen (next_layer (op.Create p m) u ls ∷ ls)) p (Some (file m (Bytes [])))
+    → ShowsAt (seen (u ∷ ls)) (seen (next_layer (op.Create p m) u ls ∷ ls)) p (Some (file (record { mode = m }) (Bytes [])))
 create_changes u ls p m ok layers passes =
     let new = IsNew-passed (u ∷ ls) p m passes in
     let t = with_parents u ls p in
     let parents = adds_parents u ls p new.way in
     let free = free_unseen u ls p ok new.unseen in
-    let b = body_kinds.File m (Bytes []) in
+    let b = body_kinds.File (record { mode = m }) (Bytes []) in
     record {
       here = new_shown u t ls p ok free parents (File t.next) refl b;
       others = λ q apart. new_elsewhere u t ls p ok free parents (File t.next) refl b layers (ap is_shown_dir (none_from (seen (u ∷ ls) p) new.unseen)) q apart;
@@ -109,13 +110,13 @@ create_changes u ls p m ok layers passes =
 -- ---- a new file of a size
 
 put_changes : (u : Tree) (ls : List Tree) (p : Names) (m size : ℕ) (digest : Option (List ℕ)) → IsLayer u → AreLayers ls → first_error (tests (op.Put p m size digest) (u ∷ ls)) ≡ None
-    → ShowsAt (seen (u ∷ ls)) (seen (next_layer (op.Put p m size digest) u ls ∷ ls)) p (Some (file m (Sized size digest)))
+    → ShowsAt (seen (u ∷ ls)) (seen (next_layer (op.Put p m size digest) u ls ∷ ls)) p (Some (file (record { mode = m }) (Sized size digest)))
 put_changes u ls p m size digest ok layers passes =
     let new = IsNewSized-passed (u ∷ ls) p m size digest passes in
     let t = with_parents u ls p in
     let parents = adds_parents u ls p new.way in
     let free = free_unseen u ls p ok new.unseen in
-    let b = body_kinds.File m (Sized size digest) in
+    let b = body_kinds.File (record { mode = m }) (Sized size digest) in
     record {
       here = new_shown u t ls p ok free parents (File t.next) refl b;
       others = λ q apart. new_elsewhere u t ls p ok free parents (File t.next) refl b layers (ap is_shown_dir (none_from (seen (u ∷ ls) p) new.unseen)) q apart;
@@ -124,10 +125,10 @@ put_changes u ls p m size digest ok layers passes =
 -- ---- a file's content
 
 -- the object of a file is turned into that of its new body
-abbrev Gives : (Object → Object) → ℕ → Content → ℕ → Content → Type 0
+abbrev Gives : (Object → Object) → Meta → Content → Meta → Content → Type 0
 Gives f m old n new = f (file m old) ≡ file n new
 
-module _ (u t : Tree) (ls : List Tree) (p : Names) (parents : AddsParents u t ls (length p)) (k m n : ℕ) (old new : Content) (f : Object → Object) (gives : Gives f m old n new) (is : at u p ≡ Some (File k)) (file_is : body u k ≡ Some (body_kinds.File m old)) where
+module _ (u t : Tree) (ls : List Tree) (p : Names) (parents : AddsParents u t ls (length p)) (k : ℕ) (m n : Meta) (old new : Content) (f : Object → Object) (gives : Gives f m old n new) (is : at u p ≡ Some (File k)) (file_is : body u k ≡ Some (body_kinds.File m old)) where
   abbrev own : Tree
   own = with_body t k (body_kinds.File n new)
 
@@ -162,7 +163,7 @@ module _ (u t : Tree) (ls : List Tree) (p : Names) (parents : AddsParents u t ls
         ∙ parents.view q;
   }
 
-module _ (u t : Tree) (ls : List Tree) (p : Names) (ok : IsLayer u) (layers : AreLayers ls) (parents : AddsParents u t ls (length p)) (m n : ℕ) (old new : Content) (f : Object → Object) (gives : Gives f m old n new) (none : at u p ≡ None) (was : seen (u ∷ ls) p ≡ Some (file m old)) where
+module _ (u t : Tree) (ls : List Tree) (p : Names) (ok : IsLayer u) (layers : AreLayers ls) (parents : AddsParents u t ls (length p)) (m n : Meta) (old new : Content) (f : Object → Object) (gives : Gives f m old n new) (none : at u p ≡ None) (was : seen (u ∷ ls) p ≡ Some (file m old)) where
   free : IsFree (at u p)
   free = subst IsFree (sym none) tt
 
@@ -219,7 +220,7 @@ fill_changes u ls p g ok layers way regular = let f = seen_file (seen (u ∷ ls)
     parents : AddsParents u (with_parents u ls p) ls (length p)
     parents = adds_parents u ls p way
 
-    by : (m : ℕ) (old : Content) → seen (u ∷ ls) p ≡ Some (file m old) → Turns u (seen (u ∷ ls)) (seen (with_content (copied_up u ls p) (number_at (copied_up u ls p) p) g ∷ ls)) p (with_file_content g)
+    by : (m : Meta) (old : Content) → seen (u ∷ ls) p ≡ Some (file m old) → Turns u (seen (u ∷ ls)) (seen (with_content (copied_up u ls p) (number_at (copied_up u ls p) p) g ∷ ls)) p (with_file_content g)
     by m old was = elim (own_or_lower u ls p m old ok was) [
       | inl none ↦ subst Goal (sym (copy_layer t ls p m old g (parents.leaves p (omega arith) ∙ none) (parents.view p ∙ was))) (copy_changes u t ls p ok layers parents m m old (g old) (with_file_content g) refl none was)
       | inr name ↦ subst Goal (sym (own_layer t ls p name.0 m old g (parents.leaves p (omega arith) ∙ name.1) (ap (λ (bs : Bodies). lookup (is_at (nat_cmp name.0)) bs) parents.bodies ∙ name.2))) (own_changes u t ls p parents name.0 m m old (g old) (with_file_content g) refl name.1 name.2)
@@ -228,21 +229,21 @@ fill_changes u ls p g ok layers way regular = let f = seen_file (seen (u ∷ ls)
 -- ---- modes
 
 -- a directory with another mode
-entry_changes : (u t : Tree) (ls : List Tree) (p : Names) (m mode : ℕ) (b : Bool) → AddsParents u t ls (length p) → node_hides (Some (Dir mode b)) ≡ node_hides (at t p) → number_at u p ≡ None → seen (u ∷ ls) p ≡ Some (dir m)
-    → Turns u (seen (u ∷ ls)) (seen (with_entry t p (Dir mode b) ∷ ls)) p (with_object_mode mode)
+entry_changes : (u t : Tree) (ls : List Tree) (p : Names) (m : Meta) (mode : ℕ) (b : Bool) → AddsParents u t ls (length p) → node_hides (Some (Dir (meta_with_mode m mode) b)) ≡ node_hides (at t p) → number_at u p ≡ None → seen (u ∷ ls) p ≡ Some (dir m)
+    → Turns u (seen (u ∷ ls)) (seen (with_entry t p (Dir (meta_with_mode m mode) b) ∷ ls)) p (with_object_mode mode)
 entry_changes u t ls p m mode b parents hides none was = record {
   here = λ q name.
       ap (seen (v ∷ ls)) (name_here q name)
-      ∙ seen_node v ls p (Dir mode b) (Sets-with_entry t p (Dir mode b)).here
+      ∙ seen_node v ls p (Dir (meta_with_mode m mode) b) (Sets-with_entry t p (Dir (meta_with_mode m mode) b)).here
       ∙ sym (ap (option_map (with_object_mode mode)) was);
-  others = λ q apart. seen-put_alike t v ls p puts (ap node_hides (Sets-with_entry t p (Dir mode b)).here ∙ hides) q (λ e. apart (inl e)) ∙ parents.view q;
+  others = λ q apart. seen-put_alike t v ls p puts (ap node_hides (Sets-with_entry t p (Dir (meta_with_mode m mode) b)).here ∙ hides) q (λ e. apart (inl e)) ∙ parents.view q;
 }
   where
     v : Tree
-    v = with_entry t p (Dir mode b)
+    v = with_entry t p (Dir (meta_with_mode m mode) b)
 
-    puts : Puts t (with_entry t p (Dir mode b)) p
-    puts = record { others = λ q apart. (Sets-with_entry t p (Dir mode b)).others q apart; shows = λ q n apart e. shown_same t (with_entry t p (Dir mode b)) n (λ j is. refl) }
+    puts : Puts t (with_entry t p (Dir (meta_with_mode m mode) b)) p
+    puts = record { others = λ q apart. (Sets-with_entry t p (Dir (meta_with_mode m mode) b)).others q apart; shows = λ q n apart e. shown_same t (with_entry t p (Dir (meta_with_mode m mode) b)) n (λ j is. refl) }
 
     no_some : (j : ℕ) → Some j ≡ None → ⊥
     no_some j e = cc
@@ -251,7 +252,7 @@ entry_changes u t ls p m mode b parents hides none was = record {
     name_here q (inl e) = e
     name_here q (inr (j, here, there)) = absurd (no_some j (sym here ∙ none))
 
-seen_with_mode : (o : Option Object) → mode_error o ≡ None → ((m : ℕ) × (o ≡ Some (dir m))) ⊎ ((m : ℕ) × (old : Content) × (o ≡ Some (file m old)))
+seen_with_mode : (o : Option Object) → mode_error o ≡ None → ((m : Meta) × (o ≡ Some (dir m))) ⊎ ((m : Meta) × (old : Content) × (o ≡ Some (file m old)))
 seen_with_mode None e = absurd (cc)
 seen_with_mode (Some (dir m)) e = inl (m, refl)
 seen_with_mode (Some (file m old)) e = inr (m, old, refl)
@@ -279,12 +280,12 @@ mode_changes u ls p mode ok layers way there = by (at u p) refl
     by : (o : Option Node) → at u p ≡ o → Turns u (seen (u ∷ ls)) (seen (with_mode (copied_up u ls p) p (at (copied_up u ls p) p) mode ∷ ls)) p (with_object_mode mode)
     by None e = elim (seen_with_mode (seen (u ∷ ls) p) there) [
       | inl d ↦ subst Goal (sym (dir_copy u ls p way e d.0 mode d.1)) (entry_changes u t ls p d.0 mode false parents (sym (ap node_hides (parents.leaves p (omega arith) ∙ e))) (ap (option_and_then number_of) e) d.1)
-      | inr f ↦ subst Goal (sym (file_copy u ls p way e f.0 mode f.1 f.2)) (copy_changes u t ls p ok layers parents f.0 mode f.1 f.1 (with_object_mode mode) refl e f.2)
+      | inr f ↦ subst Goal (sym (file_copy u ls p way e f.0 mode f.1 f.2)) (copy_changes u t ls p ok layers parents f.0 (meta_with_mode f.0 mode) f.1 f.1 (with_object_mode mode) refl e f.2)
     ]
     by (Some (Dir m b)) e = subst Goal (sym (own (Dir m b) e)) (entry_changes u u ls p m mode b (same (Dir m b) e) (sym (ap node_hides e)) (ap (option_and_then number_of) e) (seen_node u ls p (Dir m b) e))
     by (Some (File k)) e =
         let is = file_body (body u k) (ok.nodes p (File k) e) in
-        subst Goal (sym (own (File k) e ∙ ap (λ (o : Option Body). with_file_mode u k o mode) is.2)) (own_changes u u ls p (same (File k) e) k is.0 mode is.1 is.1 (with_object_mode mode) refl e is.2)
+        subst Goal (sym (own (File k) e ∙ ap (λ (o : Option Body). with_file_mode u k o mode) is.2)) (own_changes u u ls p (same (File k) e) k is.0 (meta_with_mode is.0 mode) is.1 is.1 (with_object_mode mode) refl e is.2)
     by (Some (Symlink k)) e = absurd (has_mode_at (has_mode u ls p ok there (ap is_some e)))
       where
         has_mode_at : HasMode (at u p) → ⊥

@@ -79,8 +79,8 @@ module _ (v : Tree) (ls : List Tree) (from : Names) (bare : IsBare v from) (f : 
     where
       put : (o : Option Object) → is_shown_dir o ≡ true → (r : Names) → at (with_object v f o) (from ++ r) ≡ None
       put None e r = absurd (cc)
-      put (Some (dir mode)) e r = (entry_bare (Dir mode false)).none r
-      put (Some (file mode content)) e r = absurd (cc)
+      put (Some (dir meta)) e r = (entry_bare (Dir meta false)).none r
+      put (Some (file meta content)) e r = absurd (cc)
       put (Some (symlink target)) e r = absurd (cc)
 
       by : (o : Option Node) → at v f ≡ o → (r : Names) → at (copied v ls f) (from ++ r) ≡ None
@@ -137,8 +137,8 @@ module _ (v : Tree) (ls : List Tree) (from : Names) (bare : IsBare v from) (f : 
       where
         put : (o : Option Object) → is_shown_dir o ≡ true → with_object (with_new v from n b) f o ≡ with_new (with_object v f o) from n b
         put None e = absurd (cc)
-        put (Some (dir mode)) e = entry_either (Dir mode false)
-        put (Some (file mode content)) e = absurd (cc)
+        put (Some (dir meta)) e = entry_either (Dir meta false)
+        put (Some (file meta content)) e = absurd (cc)
         put (Some (symlink target)) e = absurd (cc)
 
         by : (o : Option Node) → at v f ≡ o → copied (with_new v from n b) ls f ≡ with_new (copied v ls f) from n b

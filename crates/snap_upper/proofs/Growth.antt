@@ -181,8 +181,8 @@ module _ (t : Tree) (p : Names) (has : HasSpace t p) where
 
   last_adds : (last : Last) (blocks : ℕ) (numbered : Bool) → Takes last blocks numbered → Adds t (with_last last t p) p blocks numbered
   last_adds Nothing blocks numbered is = absurd is
-  last_adds (Dir mode opaque) blocks numbered is = retold (with_entry t p (node.Dir mode opaque)) blocks 1 numbered false is.0 is.1 (adds_entry (node.Dir mode opaque) (with_entry t p (node.Dir mode opaque)) refl refl refl)
-  last_adds (File mode content) blocks numbered is = retold (with_last (File mode content) t p) blocks (blocks_of (size_of content)) numbered true is.0 is.1 (adds_new (node.File t.next) (body_kinds.File mode content) refl refl refl)
+  last_adds (Dir meta opaque) blocks numbered is = retold (with_entry t p (node.Dir meta opaque)) blocks 1 numbered false is.0 is.1 (adds_entry (node.Dir meta opaque) (with_entry t p (node.Dir meta opaque)) refl refl refl)
+  last_adds (File meta content) blocks numbered is = retold (with_last (File meta content) t p) blocks (blocks_of (size_of content)) numbered true is.0 is.1 (adds_new (node.File t.next) (body_kinds.File meta content) refl refl refl)
   last_adds (Symlink target) blocks numbered is = retold (with_last (Symlink target) t p) blocks 0 numbered true is.0 is.1 (adds_new (node.Symlink t.next) (body_kinds.Symlink target) refl refl refl)
   last_adds Whiteout blocks numbered is = retold (with_node t p node.Whiteout) blocks 0 numbered false is.0 is.1 (adds_entry node.Whiteout (with_node t p node.Whiteout) (has.same node.Whiteout) refl refl)
 

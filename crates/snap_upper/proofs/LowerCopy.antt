@@ -29,18 +29,18 @@ use Rattle.snap_upper.proofs.EitherOrder.{IsBare, bare_here, file_inodes, node_i
 -- ---- a body and its name
 
 pub leaf_number : (k : ℕ) (b : Body) → number_of (leaf_node k b) ≡ Some k
-leaf_number k (body_kinds.File mode content) = refl
+leaf_number k (body_kinds.File meta content) = refl
 leaf_number k (body_kinds.Symlink target) = refl
 
 leaf_inodes : (k : ℕ) (b : Body) → inodes_of (Some (leaf_node k b)) ≡ 0
-leaf_inodes k (body_kinds.File mode content) = refl
+leaf_inodes k (body_kinds.File meta content) = refl
 leaf_inodes k (body_kinds.Symlink target) = refl
 
 -- what layers show is within the limits
 pub body_fits : (o : Option Object) (b : Body) → IsWholeObject o → object_body o ≡ Some b → IsBody b
 body_fits None b whole e = absurd (cc)
-body_fits (Some (dir mode)) b whole e = absurd (cc)
-body_fits (Some (file mode content)) b whole e = let same : body_kinds.File mode content ≡ b = cc in subst IsBody same whole
+body_fits (Some (dir meta)) b whole e = absurd (cc)
+body_fits (Some (file meta content)) b whole e = let same : body_kinds.File meta content ≡ b = cc in subst IsBody same whole
 body_fits (Some (symlink target)) b whole e = let same : body_kinds.Symlink target ≡ b = cc in subst IsBody same whole
 
 -- ---- the layer with the directories above both paths

@@ -63,10 +63,10 @@ module _ (u : Tree) (ls : List Tree) (p : Names) (mode : ℕ) where
     new = IsNew-passed (u ∷ ls) p mode passes
 
     -- the next layer is this one with the directories above the path, and with the new object
-    pub dir_after : (opaque : Bool) → opaque ≡ is_whiteout_at (at u p) → limited (with_last (last.Dir mode opaque) (with_parents u ls p) p) ≡ after (op.Mkdir p mode) u ls
-    dir_after opaque is = ap (λ (b : Bool). limited (with_entry (with_parents u ls p) p (Dir mode b))) is ∙ sym (after_passes (op.Mkdir p mode) u ls passes)
+    pub dir_after : (opaque : Bool) → opaque ≡ is_whiteout_at (at u p) → limited (with_last (last.Dir (record { mode = mode }) opaque) (with_parents u ls p) p) ≡ after (op.Mkdir p mode) u ls
+    dir_after opaque is = ap (λ (b : Bool). limited (with_entry (with_parents u ls p) p (Dir (record { mode = mode }) b))) is ∙ sym (after_passes (op.Mkdir p mode) u ls passes)
 
-    pub file_after : limited (with_last (last.File mode (Bytes [])) (with_parents u ls p) p) ≡ after (op.Create p mode) u ls
+    pub file_after : limited (with_last (last.File (record { mode = mode }) (Bytes [])) (with_parents u ls p) p) ≡ after (op.Create p mode) u ls
     file_after = sym (after_passes (op.Create p mode) u ls passes)
 
 -- ---- files of a size
@@ -99,8 +99,8 @@ IsNewSized-passed s p mode size digest passes =
       content = (ltb-false most_sized_bytes size (error_if_passes (nat_lt most_sized_bytes size) TooBig fourth.0), digest_from digest (error_if_passes (is_long_digest digest) TooBig fifth.0));
     }
 
-pub sized_after : (u : Tree) (ls : List Tree) (p : Names) (mode size : ℕ) (digest copy : Option (List ℕ)) → first_error (tests (op.Put p mode size digest) (u ∷ ls)) ≡ None → copy ≡ digest → limited (with_last (last.File mode (Sized size copy)) (with_parents u ls p) p) ≡ after (op.Put p mode size digest) u ls
-sized_after u ls p mode size digest copy passes is = ap (λ (d : Option (List ℕ)). limited (with_last (last.File mode (Sized size d)) (with_parents u ls p) p)) is ∙ sym (after_passes (op.Put p mode size digest) u ls passes)
+pub sized_after : (u : Tree) (ls : List Tree) (p : Names) (mode size : ℕ) (digest copy : Option (List ℕ)) → first_error (tests (op.Put p mode size digest) (u ∷ ls)) ≡ None → copy ≡ digest → limited (with_last (last.File (record { mode = mode }) (Sized size copy)) (with_parents u ls p) p) ≡ after (op.Put p mode size digest) u ls
+sized_after u ls p mode size digest copy passes is = ap (λ (d : Option (List ℕ)). limited (with_last (last.File (record { mode = mode }) (Sized size d)) (with_parents u ls p) p)) is ∙ sym (after_passes (op.Put p mode size digest) u ls passes)
 
 -- ---- symlinks
 

@@ -3,22 +3,23 @@ use Rattle.std.proofs.Common.{◌≡◌, ℕ, ◌≤◌, true, false, List, [], 
 use Rattle.std.specs.Prelude.{nat_lt}
 use Rattle.snap_path.specs.Limits.{most_mode}
 use Rattle.snap_path.specs.Text.{Names}
+use Rattle.snap_layer.specs.declared.node.Meta.{Meta}
 use Rattle.snap_layer.specs.declared.node.Node.{Node}
 use Rattle.snap_layer.specs.declared.node.Node.TheVariants.{Dir, File, Symlink, Whiteout}
 use Rattle.snap_layer.specs.declared.node.Body.{Body}
 use Rattle.snap_layer.specs.declared.node.Body.TheVariants as body_kinds
 use Rattle.snap_layer.specs.Tree.{Tree, at, body}
 use Rattle.snap_layer.specs.Counts.{inode_count, block_count}
-use Rattle.snap_layer.specs.Layers.{IsLayer, IsFile, IsSymlink}
+use Rattle.snap_layer.specs.Layers.{IsLayer, IsFile, IsSymlink, IsMeta}
 use Rattle.snap_layer.proofs.Setting.{dir_stays, file_body}
 use Rattle.snap_layer.proofs.Kept.{IsLayer-with_body}
 use Rattle.snap_layer.specs.Contents.{edited, IsContent, IsShort}
 use Rattle.snap_layer.specs.declared.content.Content.{Content}
 use Rattle.snap_usage.specs.declared.usage.Usage.{Usage}
-use Rattle.snap_layer.specs.Edits.{with_entry, with_new, with_body, with_mode, with_file_mode, HasMode}
+use Rattle.snap_layer.specs.Edits.{with_entry, with_new, with_body, with_mode, with_file_mode, HasMode, meta_with_mode}
 use Rattle.snap_layer.proofs.Looks.{Sets-with_entry}
 use Rattle.snap_layer.proofs.Laws.{Replaces-with_new, SetsBody-with_new, inode_count-with_mode, block_count-with_mode}
-use Rattle.snap_merge.specs.Objects.{Object, dir, file, symlink, seen, shown_body, is_shown_dir, AreLayers}
+use Rattle.snap_merge.specs.Objects.{Object, dir, file, symlink, seen, shown_body, AreLayers}
 use Rattle.snap_merge.specs.Walk.{walk_error}
 use Rattle.snap_merge.specs.declared.error.FsError.{FsError}
 use Rattle.snap_merge.specs.declared.error.FsError.TheVariants.{Invalid}
@@ -88,12 +89,12 @@ own_mode u ls p mode ok some =
     ap (λ (t : Tree). with_mode t p (at t p) mode) (ap (λ (t : Tree). copied t ls p) (no_missing u ls p ok some) ∙ copied_there u ls p some)
 
 -- it is copied up
-copy_dir : (t : Tree) (p : Names) (m mode : ℕ) → with_mode (with_entry t p (Dir m false)) p (at (with_entry t p (Dir m false)) p) mode ≡ with_entry t p (Dir mode false)
+copy_dir : (t : Tree) (p : Names) (m : Meta) (mode : ℕ) → with_mode (with_entry t p (Dir m false)) p (at (with_entry t p (Dir m false)) p) mode ≡ with_entry t p (Dir (meta_with_mode m mode) false)
 copy_dir t p m mode =
     ap (λ (o : Option Node). with_mode (with_entry t p (Dir m false)) p o mode) (Sets-with_entry t p (Dir m false)).here
-    ∙ entry_with_entry t p (Dir m false) (Dir mode false)
+    ∙ entry_with_entry t p (Dir m false) (Dir (meta_with_mode m mode) false)
 
-pub copy_file_body : (t : Tree) (p : Names) (m mode : ℕ) (content : Content) → with_mode (with_new t p (File t.next) (body_kinds.File m content)) p (at (with_new t p (File t.next) (body_kinds.File m content)) p) mode ≡ with_body (with_new t p (File t.next) (body_kinds.File m content)) t.next (body_kinds.File mode content)
+pub copy_file_body : (t : Tree) (p : Names) (m : Meta) (mode : ℕ) (content : Content) → with_mode (with_new t p (File t.next) (body_kinds.File m content)) p (at (with_new t p (File t.next) (body_kinds.File m content)) p) mode ≡ with_body (with_new t p (File t.next) (body_kinds.File m content)) t.next (body_kinds.File (meta_with_mode m mode) content)
 copy_file_body t p m mode content =
     let b = body_kinds.File m content in
     let v = with_new t p (File t.next) b in
@@ -110,23 +111,14 @@ module _ (u : Tree) (ls : List Tree) (p : Names) (way : walk_error (u ∷ ls) p 
       let empty = adds.leaves p (omega arith) ∙ none in
       copied_missing t ls p empty ∙ ap (with_object t p) (sym (below_seen t ls p empty) ∙ adds.view p ∙ was)
 
-  pub dir_copy : (m mode : ℕ) → seen (u ∷ ls) p ≡ Some (dir m) → with_mode (copied_up u ls p) p (at (copied_up u ls p) p) mode ≡ with_entry (with_parents u ls p) p (Dir mode false)
+  pub dir_copy : (m : Meta) (mode : ℕ) → seen (u ∷ ls) p ≡ Some (dir m) → with_mode (copied_up u ls p) p (at (copied_up u ls p) p) mode ≡ with_entry (with_parents u ls p) p (Dir (meta_with_mode m mode) false)
   dir_copy m mode was = ap (λ (v : Tree). with_mode v p (at v p) mode) (copied_as (Some (dir m)) was) ∙ copy_dir t p m mode
 
-  pub file_copy : (m mode : ℕ) (content : Content) → seen (u ∷ ls) p ≡ Some (file m content) → with_mode (copied_up u ls p) p (at (copied_up u ls p) p) mode ≡ with_body (with_new (with_parents u ls p) p (File (with_parents u ls p).next) (body_kinds.File m content)) (with_parents u ls p).next (body_kinds.File mode content)
+  pub file_copy : (m : Meta) (mode : ℕ) (content : Content) → seen (u ∷ ls) p ≡ Some (file m content) → with_mode (copied_up u ls p) p (at (copied_up u ls p) p) mode ≡ with_body (with_new (with_parents u ls p) p (File (with_parents u ls p).next) (body_kinds.File m content)) (with_parents u ls p).next (body_kinds.File (meta_with_mode m mode) content)
   file_copy m mode content was = ap (λ (v : Tree). with_mode v p (at v p) mode) (copied_as (Some (file m content)) was) ∙ copy_file_body t p m mode content
 
-  copy_dir_mode : (mode : ℕ) → is_shown_dir (seen (u ∷ ls) p) ≡ true → with_mode (copied_up u ls p) p (at (copied_up u ls p) p) mode ≡ with_entry (with_parents u ls p) p (Dir mode false)
-  copy_dir_mode mode is = by (seen (u ∷ ls) p) refl is
-    where
-      by : (o : Option Object) → seen (u ∷ ls) p ≡ o → is_shown_dir o ≡ true → with_mode (copied_up u ls p) p (at (copied_up u ls p) p) mode ≡ with_entry (with_parents u ls p) p (Dir mode false)
-      by None e is = absurd (cc)
-      by (Some (dir m)) e is = dir_copy m mode e
-      by (Some (file m content)) e is = absurd (cc)
-      by (Some (symlink target)) e is = absurd (cc)
-
-  copy_file_mode : (m mode : ℕ) (content : Content) → seen (u ∷ ls) p ≡ Some (file m content) → with_mode (copied_up u ls p) p (at (copied_up u ls p) p) mode ≡ with_last (last.File mode content) (with_parents u ls p) p
-  copy_file_mode m mode content is = file_copy m mode content is ∙ new_with_body t p (File t.next) (body_kinds.File m content) (body_kinds.File mode content)
+  copy_file_mode : (m : Meta) (mode : ℕ) (content : Content) → seen (u ∷ ls) p ≡ Some (file m content) → with_mode (copied_up u ls p) p (at (copied_up u ls p) p) mode ≡ with_last (last.File (meta_with_mode m mode) content) (with_parents u ls p) p
+  copy_file_mode m mode content is = file_copy m mode content is ∙ new_with_body t p (File t.next) (body_kinds.File m content) (body_kinds.File (meta_with_mode m mode) content)
 
 -- ---- outcomes
 
@@ -147,11 +139,11 @@ mode_layer u p mode ok has low = by (at u p) refl has
   where
     by : (o : Option Node) → at u p ≡ o → HasMode o → IsLayer (with_mode u p o mode)
     by None e has = absurd has
-    by (Some (Dir m b)) e has = (dir_stays u ok p m mode b b e low).layer
+    by (Some (Dir m b)) e has = (dir_stays u ok p m (meta_with_mode m mode) b b e low).layer
     by (Some (File k)) e has =
         let there = ok.nodes p (File k) e in
         let is = file_body (body u k) there in
-        subst (λ (o : Option Body). IsLayer (with_file_mode u k o mode)) (sym is.2) (IsLayer-with_body u k (body_kinds.File mode is.1) ok there (low, (subst IsFile is.2 there).1))
+        subst (λ (o : Option Body). IsLayer (with_file_mode u k o mode)) (sym is.2) (IsLayer-with_body u k (body_kinds.File (meta_with_mode is.0 mode) is.1) ok there (low, (subst IsFile is.2 there).1))
     by (Some (Symlink k)) e has = absurd has
     by (Some Whiteout) e has = absurd has
 
@@ -169,20 +161,20 @@ module _ (u : Tree) (ls : List Tree) (p : Names) (mode : ℕ) (ok : IsLayer u) (
   pub lower_ready : AreLayers ls → is_some (at u p) ≡ false → (n : New) → IsWithMode n (seen (u ∷ ls) p) mode → (walk_error (u ∷ ls) p ≡ None) × CanStand (as_last n) u p × IsSound n
   lower_ready layers none (new.Dir m opaque) is =
       let can = settable u ls p mode ok passes in
-      (can.way, (vacant u p ok (none_from (at u p) none), subst (λ (x : ℕ). x ≤ most_mode) (sym is.1) can.low), tt)
+      (can.way, (vacant u p ok (none_from (at u p) none), subst IsMeta (sym is.2) can.low), tt)
   lower_ready layers none (new.File m old edit) is =
       let can = settable u ls p mode ok passes in
       let whole = subst IsWholeObject is.1 (whole_seen (u ∷ ls) (ok, layers) p) in
       let short : IsContent (edited edit old.now) = subst (λ (e : Edit). IsContent (edited e old.now)) (sym is.3) whole.1 in
-      (can.way, (vacant u p ok (none_from (at u p) none), subst (λ (x : ℕ). x ≤ most_mode) (sym is.2) can.low, short), (subst (λ (e : Edit). IsShort e old.now) (sym is.3) tt, short))
+      (can.way, (vacant u p ok (none_from (at u p) none), subst IsMeta (sym is.2) can.low, short), (subst (λ (e : Edit). IsShort e old.now) (sym is.3) tt, short))
   lower_ready layers none (new.Empty m) is = absurd is
   lower_ready layers none (new.Sized m size digest) is = absurd is
   lower_ready layers none (new.Symlink target) is = absurd is
 
   lower_same : at u p ≡ None → (n : New) → IsWithMode n (seen (u ∷ ls) p) mode → with_last (as_last n) (with_parents u ls p) p ≡ with_mode (copied_up u ls p) p (at (copied_up u ls p) p) mode
   lower_same none (new.Dir m opaque) is =
-      (λ i. with_last (last.Dir (is.1 i) (is.2 i)) (with_parents u ls p) p)
-      ∙ sym (copy_dir_mode u ls p (settable u ls p mode ok passes).way none mode is.0)
+      (λ i. with_last (last.Dir (is.2 i) (is.3 i)) (with_parents u ls p) p)
+      ∙ sym (dir_copy u ls p (settable u ls p mode ok passes).way none is.0 mode is.1)
   lower_same none (new.File m old edit) is =
       (λ i. with_last (last.File (is.2 i) (edited (is.3 i) old.now)) (with_parents u ls p) p)
       ∙ sym (copy_file_mode u ls p (settable u ls p mode ok passes).way none is.0 mode old.now is.1)

@@ -15,7 +15,7 @@ most_before_move u ls from to = most_parents (copied_up u ls from) ls to ∙ mos
 
 most_opaque : (t : Tree) (p : Names) (o : Option Node) (opaque : Bool) → (with_opaque t p o opaque).most ≡ t.most
 most_opaque t p None opaque = refl
-most_opaque t p (Some (Dir mode old)) opaque = refl
+most_opaque t p (Some (Dir meta old)) opaque = refl
 most_opaque t p (Some (File number)) opaque = refl
 most_opaque t p (Some (Symlink number)) opaque = refl
 most_opaque t p (Some Whiteout) opaque = refl

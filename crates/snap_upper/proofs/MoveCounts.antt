@@ -10,7 +10,7 @@ use Rattle.snap_layer.specs.Layers.{IsLayer}
 use Rattle.snap_layer.specs.Edits.{with_moved, with_opaque, without}
 use Rattle.snap_layer.proofs.Moves.{most_moved}
 use Rattle.snap_layer.proofs.Moving.{moved_becomes}
-use Rattle.snap_layer.proofs.Setting.{dir_mode, dir_stays}
+use Rattle.snap_layer.proofs.Setting.{dir_meta, dir_stays}
 use Rattle.snap_usage.specs.declared.usage.Usage.{Usage}
 use Rattle.snap_merge.specs.Objects.{AreLayers}
 use Rattle.snap_copyup.specs.Copying.{below}
@@ -30,7 +30,7 @@ opaque_layer t ok p = by (at t p) refl
   where
     by : (o : Option Node) → at t p ≡ o → IsLayer (with_opaque t p o true)
     by None e = ok
-    by (Some (Dir m b)) e = (dir_stays t ok p m m b true e (dir_mode t ok p m b e)).layer
+    by (Some (Dir m b)) e = (dir_stays t ok p m m b true e (dir_meta t ok p m b e)).layer
     by (Some (File k)) e = ok
     by (Some (Symlink k)) e = ok
     by (Some Whiteout) e = ok

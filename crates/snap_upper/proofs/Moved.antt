@@ -51,27 +51,27 @@ marked t p covers = if covers then with_opaque t p (at t p) true else t
 
 -- the node with the mark
 abbrev pub top_node : Bool → Node → Node
-top_node true (Dir mode opaque) = Dir mode true
+top_node true (Dir meta opaque) = Dir meta true
 top_node true (File k) = File k
 top_node true (Symlink k) = Symlink k
 top_node true Whiteout = Whiteout
 top_node false n = n
 
 top_shows : (t : Tree) (covers : Bool) (n : Node) → shown t (top_node covers n) ≡ shown t n
-top_shows t true (Dir mode opaque) = refl
+top_shows t true (Dir meta opaque) = refl
 top_shows t true (File k) = refl
 top_shows t true (Symlink k) = refl
 top_shows t true Whiteout = refl
 top_shows t false n = refl
 
 top_hides : (n : Node) → node_hides (Some (top_node true n)) ≡ true
-top_hides (Dir mode opaque) = refl
+top_hides (Dir meta opaque) = refl
 top_hides (File k) = refl
 top_hides (Symlink k) = refl
 top_hides Whiteout = refl
 
 at_marked : (t : Tree) (p : Names) (covers : Bool) (n : Node) → at t p ≡ Some n → at (marked t p covers) p ≡ Some (top_node covers n)
-at_marked t p true (Dir mode opaque) e = ap (λ (o : Option Node). at (with_opaque t p o true) p) e ∙ (Sets-with_entry t p (Dir mode true)).here
+at_marked t p true (Dir meta opaque) e = ap (λ (o : Option Node). at (with_opaque t p o true) p) e ∙ (Sets-with_entry t p (Dir meta true)).here
 at_marked t p true (File k) e = ap (λ (o : Option Node). at (with_opaque t p o true) p) e ∙ e
 at_marked t p true (Symlink k) e = ap (λ (o : Option Node). at (with_opaque t p o true) p) e ∙ e
 at_marked t p true Whiteout e = ap (λ (o : Option Node). at (with_opaque t p o true) p) e ∙ e
@@ -86,7 +86,7 @@ marked_body t p true k = by (at t p)
   where
     by : (o : Option Node) → body (with_opaque t p o true) k ≡ body t k
     by None = refl
-    by (Some (Dir mode opaque)) = refl
+    by (Some (Dir meta opaque)) = refl
     by (Some (File j)) = refl
     by (Some (Symlink j)) = refl
     by (Some Whiteout) = refl

@@ -4,6 +4,7 @@ use Rattle.std.specs.Ordering.{nat_cmp}
 use Rattle.std.specs.Map.{lookup}
 use Rattle.std.specs.BTreeMap.{is_at}
 use Rattle.snap_path.specs.Text.{Names}
+use Rattle.snap_layer.specs.declared.node.Meta.{Meta}
 use Rattle.snap_layer.specs.declared.node.Node.{Node}
 use Rattle.snap_layer.specs.declared.node.Node.TheVariants.{Dir, File, Symlink, Whiteout}
 use Rattle.snap_layer.specs.declared.node.Body.{Body}
@@ -51,7 +52,7 @@ IsHideable-passed s p passes =
     let second = test_passes (dir_error (seen s p)) [] first.1 in
     record { way = first.0; there = second.0 }
 
-seen_dir : (o : Option Object) → dir_error o ≡ None → (m : ℕ) × (o ≡ Some (dir m))
+seen_dir : (o : Option Object) → dir_error o ≡ None → (m : Meta) × (o ≡ Some (dir m))
 seen_dir None e = absurd (cc)
 seen_dir (Some (dir m)) e = (m, refl)
 seen_dir (Some (file m old)) e = absurd (cc)
@@ -59,14 +60,14 @@ seen_dir (Some (symlink target)) e = absurd (cc)
 
 -- ---- outcomes
 
-module _ (u : Tree) (ls : List Tree) (p : Names) (m : ℕ) (ok : IsLayer u) (was : seen (u ∷ ls) p ≡ Some (dir m)) where
+module _ (u : Tree) (ls : List Tree) (p : Names) (m : Meta) (ok : IsLayer u) (was : seen (u ∷ ls) p ≡ Some (dir m)) where
   -- the layer has the directory
   pub own_dir : is_some (at u p) ≡ true → IsDirAt (at u p)
   own_dir some = by (at u p) refl some
     where
       shown_no_dir : (o : Option Body) → shown_body o ≡ Some (dir m) → ⊥
       shown_no_dir None e = cc
-      shown_no_dir (Some (body_kinds.File mode content)) e = cc
+      shown_no_dir (Some (body_kinds.File meta content)) e = cc
       shown_no_dir (Some (body_kinds.Symlink target)) e = cc
 
       by : (o : Option Node) → at u p ≡ o → is_some o ≡ true → IsDirAt o
@@ -88,7 +89,7 @@ module _ (u : Tree) (ls : List Tree) (p : Names) (m : ℕ) (ok : IsLayer u) (was
   pub copy_opaque : walk_error (u ∷ ls) p ≡ None → at u p ≡ None → with_opaque (copied_up u ls p) p (at (copied_up u ls p) p) true ≡ with_entry (with_parents u ls p) p (Dir m true)
   copy_opaque way none = ap (λ (v : Tree). with_opaque v p (at v p) true) (copied_as u ls p way none (Some (dir m)) was) ∙ copy_dir (with_parents u ls p)
 
-module _ (u : Tree) (ls : List Tree) (p : Names) (ok : IsLayer u) (passes : first_error (tests (op.Opaque p) (u ∷ ls)) ≡ None) (m : ℕ) (was : seen (u ∷ ls) p ≡ Some (dir m)) where
+module _ (u : Tree) (ls : List Tree) (p : Names) (ok : IsLayer u) (passes : first_error (tests (op.Opaque p) (u ∷ ls)) ≡ None) (m : Meta) (was : seen (u ∷ ls) p ≡ Some (dir m)) where
   pub own_opaque_after : is_some (at u p) ≡ true → limited (with_opaque u p (at u p) true) ≡ after (op.Opaque p) u ls
   own_opaque_after some = ap limited (sym (own_opaque u ls p m ok was some)) ∙ sym (after_passes (op.Opaque p) u ls passes)
 
@@ -115,7 +116,7 @@ with_opaque_planned u p ok usage is =
 -- ---- what is seen
 
 -- a directory that hides what is below it
-marked_changes : (u t : Tree) (ls : List Tree) (p : Names) (m : ℕ) → AddsParents u t ls (length p) → seen (u ∷ ls) p ≡ Some (dir m)
+marked_changes : (u t : Tree) (ls : List Tree) (p : Names) (m : Meta) → AddsParents u t ls (length p) → seen (u ∷ ls) p ≡ Some (dir m)
     → ShowsOpaque u (seen (u ∷ ls)) (seen (with_entry t p (Dir m true) ∷ ls)) p
 marked_changes u t ls p m parents was = record { below = below; others = others }
   where
@@ -163,7 +164,7 @@ opaque_changes u ls p ok passes = by (at u p) refl
     way : walk_error (u ∷ ls) p ≡ None
     way = (IsHideable-passed (u ∷ ls) p passes).way
 
-    found : (m : ℕ) × (seen (u ∷ ls) p ≡ Some (dir m))
+    found : (m : Meta) × (seen (u ∷ ls) p ≡ Some (dir m))
     found = seen_dir (seen (u ∷ ls) p) (IsHideable-passed (u ∷ ls) p passes).there
 
     Goal : Tree → Type 0

@@ -6,6 +6,7 @@ use Rattle.std.specs.List.Sorted.{IsStrictlySortedBy}
 use Rattle.std.specs.Map.{keys_of}
 use Rattle.std.proofs.lemmas.Bool.{cond-true, cond-false}
 use Rattle.snap_path.specs.Text.{Names, begins}
+use Rattle.snap_layer.specs.declared.node.Meta.{Meta}
 use Rattle.snap_layer.specs.declared.node.Node.{Node}
 use Rattle.snap_layer.specs.declared.node.Node.TheVariants as node
 use Rattle.snap_layer.specs.declared.node.Body.{Body}
@@ -53,7 +54,7 @@ keeps_itself u = record { node = λ q n e. e; hides = λ q. refl }
 keeps_both : (u t v : Tree) → Keeps u t → Keeps t v → Keeps u v
 keeps_both u t v a b = record { node = λ q n e. b.node q n (a.node q n e); hides = λ q. b.hides q ∙ a.hides q }
 
-keeps_dir : (u : Tree) (p : Names) (k : ℕ) → at u p ≡ None → Keeps u (with_entry u p (node.Dir k false))
+keeps_dir : (u : Tree) (p : Names) (k : Meta) → at u p ≡ None → Keeps u (with_entry u p (node.Dir k false))
 keeps_dir u p k none = record {
   node = λ q n e. elim (split_path q p) [
     | inl one ↦ absurd (no_node n (sym none ∙ ap (at u) (sym one.0) ∙ e))
@@ -144,8 +145,8 @@ module _ (u : Tree) (ls : List Tree) (from : Names) (ok : IsLayer u) (layers : A
     where
       new : (o : Option Object) → at u from ≡ None → below u ls from ≡ o → seen (u ∷ ls) from ≡ o → copied_up u ls from ≡ with_last (last_of None o) (with_parents u ls from) from → IsCopied u (copied_up u ls from) ls from
       new None none e was is = absurd (no_bool (sym there ∙ ap is_some was))
-      new (Some (dir mode)) none e was is = absurd (no_bool (sym (stands (ap is_shown_dir was)) ∙ ap is_some none))
-      new (Some (file mode content)) none e was is = IsCopied-new (node.File (with_parents u ls from).next) (body_kinds.File mode content) none refl is
+      new (Some (dir meta)) none e was is = absurd (no_bool (sym (stands (ap is_shown_dir was)) ∙ ap is_some none))
+      new (Some (file meta content)) none e was is = IsCopied-new (node.File (with_parents u ls from).next) (body_kinds.File meta content) none refl is
       new (Some (symlink target)) none e was is = IsCopied-new (node.Symlink (with_parents u ls from).next) (body_kinds.Symlink target) none refl is
 
       by : (o : Option Node) → at u from ≡ o → IsCopied u (copied_up u ls from) ls from
@@ -161,8 +162,8 @@ pure_stands (Some n) under e = refl
 -- what is pure hides what is below it, or no directory is below it
 pure_either : (o : Option Node) (under : Option Object) → is_pure_over o under ≡ true → (node_hides o ≡ true) ⊎ (is_shown_dir under ≡ false)
 pure_either None under e = absurd (cc)
-pure_either (Some (node.Dir mode true)) under e = inl refl
-pure_either (Some (node.Dir mode false)) under e = inr (by (is_shown_dir under) e)
+pure_either (Some (node.Dir meta true)) under e = inl refl
+pure_either (Some (node.Dir meta false)) under e = inr (by (is_shown_dir under) e)
   where
     by : (b : Bool) → not b ≡ true → b ≡ false
     by true e = absurd (cc)

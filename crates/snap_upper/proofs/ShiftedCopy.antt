@@ -252,7 +252,7 @@ module _ (w : Tree) (from to : Names) (ok : IsLayer w) (none : at w from ≡ Non
 
       -- which is no directory, so no mark is set
       unmarked : (x : Tree) (k : ℕ) (c : Body) → with_opaque x to (Some (leaf_node k c)) true ≡ x
-      unmarked x k (body_kinds.File mode content) = refl
+      unmarked x k (body_kinds.File meta content) = refl
       unmarked x k (body_kinds.Symlink target) = refl
 
       pub shifted_is : (covers : Bool) → shifted (with_new w from (leaf_node w.next b) b) from to true covers ≡ with_shifted w from to b

@@ -38,7 +38,7 @@ node_of_number (Some n) h = refl
 -- and it is no directory
 pub number_of_no_dir : (o : Option Node) → IsSome (option_and_then number_of o) → IsDirAt o → ⊥
 number_of_no_dir None h dir = dir
-number_of_no_dir (Some (node.Dir mode opaque)) h dir = cc
+number_of_no_dir (Some (node.Dir meta opaque)) h dir = cc
 number_of_no_dir (Some (node.File k)) h dir = cc
 number_of_no_dir (Some (node.Symlink k)) h dir = cc
 number_of_no_dir (Some node.Whiteout) h dir = cc

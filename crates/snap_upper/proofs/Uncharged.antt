@@ -21,8 +21,8 @@ module _ (need : Usage) where
 
   on_walk : (o : Option Object) (later : Option FsError) → (later ≡ Some (NeedsCharge need) → ⊥) → walk_on o later ≡ Some (NeedsCharge need) → ⊥
   on_walk None later never e = cc
-  on_walk (Some (dir mode)) later never e = never e
-  on_walk (Some (file mode content)) later never e = cc
+  on_walk (Some (dir meta)) later never e = never e
+  on_walk (Some (file meta content)) later never e = cc
   on_walk (Some (symlink target)) later never e = cc
 
   no_walk_from : (s : List Tree) (front rest : Names) → walk_from s front rest ≡ Some (NeedsCharge need) → ⊥
@@ -35,32 +35,32 @@ module _ (need : Usage) where
 
   no_file_error : (o : Option Object) → file_error o ≡ Some (NeedsCharge need) → ⊥
   no_file_error None e = cc
-  no_file_error (Some (dir mode)) e = cc
-  no_file_error (Some (file mode content)) e = cc
+  no_file_error (Some (dir meta)) e = cc
+  no_file_error (Some (file meta content)) e = cc
   no_file_error (Some (symlink target)) e = cc
 
   no_mode_error : (o : Option Object) → mode_error o ≡ Some (NeedsCharge need) → ⊥
   no_mode_error None e = cc
-  no_mode_error (Some (dir mode)) e = cc
-  no_mode_error (Some (file mode content)) e = cc
+  no_mode_error (Some (dir meta)) e = cc
+  no_mode_error (Some (file meta content)) e = cc
   no_mode_error (Some (symlink target)) e = cc
 
   no_name_error : (o : Option Object) → name_error o ≡ Some (NeedsCharge need) → ⊥
   no_name_error None e = cc
-  no_name_error (Some (dir mode)) e = cc
-  no_name_error (Some (file mode content)) e = cc
+  no_name_error (Some (dir meta)) e = cc
+  no_name_error (Some (file meta content)) e = cc
   no_name_error (Some (symlink target)) e = cc
 
   no_dir_error : (o : Option Object) → dir_error o ≡ Some (NeedsCharge need) → ⊥
   no_dir_error None e = cc
-  no_dir_error (Some (dir mode)) e = cc
-  no_dir_error (Some (file mode content)) e = cc
+  no_dir_error (Some (dir meta)) e = cc
+  no_dir_error (Some (file meta content)) e = cc
   no_dir_error (Some (symlink target)) e = cc
 
   no_link_error : (o : Option Object) → link_error o ≡ Some (NeedsCharge need) → ⊥
   no_link_error None e = cc
-  no_link_error (Some (dir mode)) e = cc
-  no_link_error (Some (file mode content)) e = cc
+  no_link_error (Some (dir meta)) e = cc
+  no_link_error (Some (file meta content)) e = cc
   no_link_error (Some (symlink target)) e = cc
 
   no_first : (o : Option FsError) (later : List (Option FsError)) → (o ≡ Some (NeedsCharge need) → ⊥) → (first_error later ≡ Some (NeedsCharge need) → ⊥) → first_error (o ∷ later) ≡ Some (NeedsCharge need) → ⊥
@@ -93,8 +93,8 @@ module _ (need : Usage) where
 
   no_kind_error : (moved : Option Object) (o : Option Object) → kind_error moved o ≡ Some (NeedsCharge need) → ⊥
   no_kind_error moved None e = cc
-  no_kind_error moved (Some (dir mode)) e = no_error_if (not (is_shown_dir moved)) IsDir (λ x. cc) e
-  no_kind_error moved (Some (file mode content)) e = no_error_if (is_shown_dir moved) NotDir (λ x. cc) e
+  no_kind_error moved (Some (dir meta)) e = no_error_if (not (is_shown_dir moved)) IsDir (λ x. cc) e
+  no_kind_error moved (Some (file meta content)) e = no_error_if (is_shown_dir moved) NotDir (λ x. cc) e
   no_kind_error moved (Some (symlink target)) e = no_error_if (is_shown_dir moved) NotDir (λ x. cc) e
 
   -- a new object's tests

@@ -9,6 +9,7 @@ use Rattle.std.proofs.lemmas.Cmp.{tied_itself}
 use Rattle.std.specs.BTreeMap.{insert_entry}
 use Rattle.snap_path.specs.Text.{Names}
 use Rattle.snap_layer.specs.declared.content.Content.{Content}
+use Rattle.snap_layer.specs.declared.node.Meta.{Meta}
 use Rattle.snap_layer.specs.declared.node.Node.{Node}
 use Rattle.snap_layer.specs.declared.node.Node.TheVariants.{Dir, File, Symlink, Whiteout}
 use Rattle.snap_layer.specs.declared.node.Body.{Body}
@@ -100,26 +101,26 @@ entry_with_entry t p old new = ap {B = Tree} (λ (es : Entries). record t { entr
 
 -- ---- the file at a path
 
-pub seen_file : (o : Option Object) → file_error o ≡ None → (m : ℕ) × (old : Content) × (o ≡ Some (file m old))
+pub seen_file : (o : Option Object) → file_error o ≡ None → (m : Meta) × (old : Content) × (o ≡ Some (file m old))
 seen_file None e = absurd (cc)
 seen_file (Some (dir m)) e = absurd (cc)
 seen_file (Some (file m old)) e = (m, old, refl)
 seen_file (Some (symlink target)) e = absurd (cc)
 
-pub body_shown : (o : Option Body) (m : ℕ) (old : Content) → shown_body o ≡ Some (file m old) → o ≡ Some (body_kinds.File m old)
+pub body_shown : (o : Option Body) (m : Meta) (old : Content) → shown_body o ≡ Some (file m old) → o ≡ Some (body_kinds.File m old)
 body_shown None m old e = absurd (cc)
 body_shown (Some (body_kinds.File n content)) m old e =
-    let mode : n ≡ m = cc in
+    let meta : n ≡ m = cc in
     let same : content ≡ old = cc in
-    λ i. Some (body_kinds.File (mode i) (same i))
+    λ i. Some (body_kinds.File (meta i) (same i))
 body_shown (Some (body_kinds.Symlink target)) m old e = absurd (cc)
 
-symlink_shown : (o : Option Body) (m : ℕ) (old : Content) → IsSymlink o → shown_body o ≡ Some (file m old) → ⊥
+symlink_shown : (o : Option Body) (m : Meta) (old : Content) → IsSymlink o → shown_body o ≡ Some (file m old) → ⊥
 symlink_shown None m old is e = is
 symlink_shown (Some (body_kinds.File n content)) m old is e = is
 symlink_shown (Some (body_kinds.Symlink target)) m old is e = cc
 
-module _ (u : Tree) (ls : List Tree) (p : Names) (m : ℕ) (old : Content) (ok : IsLayer u) (was : seen (u ∷ ls) p ≡ Some (file m old)) where
+module _ (u : Tree) (ls : List Tree) (p : Names) (m : Meta) (old : Content) (ok : IsLayer u) (was : seen (u ∷ ls) p ≡ Some (file m old)) where
   -- the layer has no node there, or a name of the file
   pub own_or_lower : (at u p ≡ None) ⊎ ((k : ℕ) × (at u p ≡ Some (File k)) × (body u k ≡ Some (body_kinds.File m old)))
   own_or_lower = by (at u p) refl
@@ -157,14 +158,14 @@ module _ (u : Tree) (ls : List Tree) (p : Names) (m : ℕ) (old : Content) (ok :
 -- ---- the file with another content
 
 -- the layer has the file
-pub own_layer : (t : Tree) (ls : List Tree) (p : Names) (k m : ℕ) (old : Content) (g : Content → Content) → at t p ≡ Some (File k) → body t k ≡ Some (body_kinds.File m old) → with_content (copied t ls p) (number_at (copied t ls p) p) g ≡ with_body t k (body_kinds.File m (g old))
+pub own_layer : (t : Tree) (ls : List Tree) (p : Names) (k : ℕ) (m : Meta) (old : Content) (g : Content → Content) → at t p ≡ Some (File k) → body t k ≡ Some (body_kinds.File m old) → with_content (copied t ls p) (number_at (copied t ls p) p) g ≡ with_body t k (body_kinds.File m (g old))
 own_layer t ls p k m old g is file_is =
     ap (λ (v : Tree). with_content v (number_at v p) g) (copied_there t ls p (ap is_some is))
     ∙ ap (λ (o : Option ℕ). with_content t o g) (ap (option_and_then number_of) is)
     ∙ ap (λ (o : Option Body). with_filled t k o (g (body_content o))) file_is
 
 -- it is copied up
-pub copy_layer : (t : Tree) (ls : List Tree) (p : Names) (m : ℕ) (old : Content) (g : Content → Content) → at t p ≡ None → seen (t ∷ ls) p ≡ Some (file m old)
+pub copy_layer : (t : Tree) (ls : List Tree) (p : Names) (m : Meta) (old : Content) (g : Content → Content) → at t p ≡ None → seen (t ∷ ls) p ≡ Some (file m old)
     → with_content (copied t ls p) (number_at (copied t ls p) p) g ≡ with_body (with_new t p (File t.next) (body_kinds.File m old)) t.next (body_kinds.File m (g old))
 copy_layer t ls p m old g none was =
     let b = body_kinds.File m old in
@@ -174,14 +175,14 @@ copy_layer t ls p m old g none was =
     ∙ ap (λ (o : Option Body). with_filled v t.next o (g (body_content o))) (SetsBody-with_new t p (File t.next) b).here
 
 -- the next layer, where the layer has the file
-pub own_filled : (u : Tree) (ls : List Tree) (p : Names) (k m : ℕ) (old : Content) (f : Content → Content) → IsLayer u → at u p ≡ Some (File k) → body u k ≡ Some (body_kinds.File m old)
+pub own_filled : (u : Tree) (ls : List Tree) (p : Names) (k : ℕ) (m : Meta) (old : Content) (f : Content → Content) → IsLayer u → at u p ≡ Some (File k) → body u k ≡ Some (body_kinds.File m old)
     → with_content (copied_up u ls p) (number_at (copied_up u ls p) p) f ≡ with_body u k (body_kinds.File m (f old))
 own_filled u ls p k m old f ok is file_is =
     ap (λ (t : Tree). with_content (copied t ls p) (number_at (copied t ls p) p) f) (no_missing u ls p ok (ap is_some is))
     ∙ own_layer u ls p k m old f is file_is
 
 -- the next layer, where a lower layer has it
-pub copy_filled : (u : Tree) (ls : List Tree) (p : Names) (m : ℕ) (old : Content) (f : Content → Content) → walk_error (u ∷ ls) p ≡ None → at u p ≡ None → seen (u ∷ ls) p ≡ Some (file m old)
+pub copy_filled : (u : Tree) (ls : List Tree) (p : Names) (m : Meta) (old : Content) (f : Content → Content) → walk_error (u ∷ ls) p ≡ None → at u p ≡ None → seen (u ∷ ls) p ≡ Some (file m old)
     → with_content (copied_up u ls p) (number_at (copied_up u ls p) p) f ≡ with_last (last.File m (f old)) (with_parents u ls p) p
 copy_filled u ls p m old f way none was =
     let adds = adds_parents u ls p way in
@@ -191,12 +192,12 @@ copy_filled u ls p m old f way none was =
 
 -- ---- counts
 
-pub record Rewrites (t : Tree) (k m : ℕ) (old new : Content) : Type 0 where
+pub record Rewrites (t : Tree) (k : ℕ) (m : Meta) (old new : Content) : Type 0 where
   pub layer : IsLayer (with_body t k (body_kinds.File m new))
   pub inodes : inode_count (with_body t k (body_kinds.File m new)) ≡ inode_count t
   pub blocks : block_count (with_body t k (body_kinds.File m new)) + blocks_of (size_of old) ≡ block_count t + blocks_of (size_of new)
 
-pub rewrites : (t : Tree) (k m : ℕ) (old new : Content) → IsLayer t → body t k ≡ Some (body_kinds.File m old) → IsContent new → Rewrites t k m old new
+pub rewrites : (t : Tree) (k : ℕ) (m : Meta) (old new : Content) → IsLayer t → body t k ≡ Some (body_kinds.File m old) → IsContent new → Rewrites t k m old new
 rewrites t k m old new ok is short =
     let there = file_there t ok k m old is in
     let b = body_kinds.File m new in

@@ -17,8 +17,8 @@ use Rattle.snap_copyup.specs.declared.parents.Last.TheVariants.{Nothing, Dir, Fi
 -- it takes an inode, so many blocks, and the next file number or none
 abbrev pub Takes : Last → ℕ → Bool → Type 0
 Takes Nothing blocks numbered = ⊥
-Takes (Dir mode opaque) blocks numbered = (blocks ≡ 1) × (numbered ≡ false)
-Takes (File mode content) blocks numbered = (blocks ≡ blocks_of (size_of content)) × (numbered ≡ true)
+Takes (Dir meta opaque) blocks numbered = (blocks ≡ 1) × (numbered ≡ false)
+Takes (File meta content) blocks numbered = (blocks ≡ blocks_of (size_of content)) × (numbered ≡ true)
 Takes (Symlink target) blocks numbered = (blocks ≡ 0) × (numbered ≡ true)
 Takes Whiteout blocks numbered = (blocks ≡ 0) × (numbered ≡ false)
 
@@ -34,8 +34,8 @@ last_blocks t k = if name_count k t.entries == 1 then weight_of (body t k) else 
 -- the blocks of what is copied up: one of a directory, those of a file, and none of a symlink
 abbrev pub object_blocks : Option Object → ℕ
 object_blocks None = 0
-object_blocks (Some (dir mode)) = 1
-object_blocks (Some (file mode content)) = blocks_of (size_of content)
+object_blocks (Some (dir meta)) = 1
+object_blocks (Some (file meta content)) = blocks_of (size_of content)
 object_blocks (Some (symlink target)) = 0
 
 -- what is seen at `from` can get the path `to`: neither path lies at or below the other, what is copied up is no directory, and in `to` there are whiteouts alone

@@ -34,13 +34,13 @@ error_if holds e = if holds then Some e else None
 -- the error where nothing is seen, or that of a directory, of a regular file or of a symlink, if it has one
 abbrev pub error_by_kind : Option FsError → Option FsError → Option FsError → Option Object → Option FsError
 error_by_kind of_dir of_file of_symlink None = Some NotFound
-error_by_kind of_dir of_file of_symlink (Some (dir mode)) = of_dir
-error_by_kind of_dir of_file of_symlink (Some (file mode content)) = of_file
+error_by_kind of_dir of_file of_symlink (Some (dir meta)) = of_dir
+error_by_kind of_dir of_file of_symlink (Some (file meta content)) = of_file
 error_by_kind of_dir of_file of_symlink (Some (symlink target)) = of_symlink
 
 -- how many bytes the file that is seen may have
 abbrev pub most_of : Option Object → ℕ
-most_of (Some (file mode content)) = most_bytes content
+most_of (Some (file meta content)) = most_bytes content
 most_of other = most_file_bytes
 
 -- a digest of more than 1024 bytes
@@ -77,7 +77,7 @@ is_same_name u from to = is_same_path from to || is_same_number (number_at u fro
 -- the error where a directory would take the place of another object, or another object that of a directory
 abbrev pub kind_error : Option Object → Option Object → Option FsError
 kind_error moved None = None
-kind_error moved (Some (dir mode)) = error_if (not (is_shown_dir moved)) IsDir
+kind_error moved (Some (dir meta)) = error_if (not (is_shown_dir moved)) IsDir
 kind_error moved (Some other) = error_if (is_shown_dir moved) NotDir
 
 -- a path of the upper layer that moves with `from` would be longer than 4095 bytes (limits.h, PATH_MAX without the closing NUL)
@@ -149,9 +149,9 @@ renamed u lowers from to = shifted (before_move u lowers from to) from to (is_so
 
 -- the effect of an operation on the upper layer
 abbrev pub next_layer : Op → Tree → List Tree → Tree
-next_layer (Mkdir path mode) u lowers = with_entry (with_parents u lowers path) path (node.Dir mode (is_whiteout_at (at u path)))
-next_layer (Create path mode) u lowers = let t = with_parents u lowers path in with_new t path (node.File t.next) (body_kinds.File mode (content_kinds.Bytes []))
-next_layer (Put path mode size digest) u lowers = let t = with_parents u lowers path in with_new t path (node.File t.next) (body_kinds.File mode (content_kinds.Sized size digest))
+next_layer (Mkdir path mode) u lowers = with_entry (with_parents u lowers path) path (node.Dir (record { mode = mode }) (is_whiteout_at (at u path)))
+next_layer (Create path mode) u lowers = let t = with_parents u lowers path in with_new t path (node.File t.next) (body_kinds.File (record { mode = mode }) (content_kinds.Bytes []))
+next_layer (Put path mode size digest) u lowers = let t = with_parents u lowers path in with_new t path (node.File t.next) (body_kinds.File (record { mode = mode }) (content_kinds.Sized size digest))
 next_layer (Write path offset bytes) u lowers = let t = copied_up u lowers path in with_content t (number_at t path) (λ old. written old offset bytes)
 next_layer (Truncate path size) u lowers = let t = copied_up u lowers path in with_content t (number_at t path) (λ old. resized old size)
 next_layer (SetMode path mode) u lowers = let t = copied_up u lowers path in with_mode t path (at t path) mode

@@ -2,6 +2,7 @@
 use Rattle.std.specs.Prelude.{◌≡◌, ◌⊎◌, ℕ, List, [], ◌∷◌, ◌++◌, Option, Some, None, Ok}
 use Rattle.std.specs.Option.{option_map}
 use Rattle.snap_path.specs.Text.{Names}
+use Rattle.snap_layer.specs.Edits.{meta_with_mode}
 use Rattle.snap_layer.specs.declared.content.Content.{Content}
 use Rattle.snap_layer.specs.declared.content.Content.TheVariants as content_kinds
 use Rattle.snap_layer.specs.Tree.{Tree, number_at}
@@ -51,21 +52,21 @@ Stays v w = (q : Names) → w q ≡ v q
 
 -- the object with another content, where it is a file
 abbrev pub with_file_content : (Content → Content) → Object → Object
-with_file_content f (dir mode) = dir mode
-with_file_content f (file mode content) = file mode (f content)
+with_file_content f (dir meta) = dir meta
+with_file_content f (file meta content) = file meta (f content)
 with_file_content f (symlink target) = symlink target
 
 -- the directory or file with another mode
 abbrev pub with_object_mode : ℕ → Object → Object
-with_object_mode mode (dir old) = dir mode
-with_object_mode mode (file old content) = file mode content
+with_object_mode mode (dir meta) = dir (meta_with_mode meta mode)
+with_object_mode mode (file meta content) = file (meta_with_mode meta mode) content
 with_object_mode mode (symlink target) = symlink target
 
 -- how the view v before the operation and the view w after it are related, over the upper layer before
 abbrev pub changed : Op → Tree → View → View → Type 0
-changed (Mkdir path mode) u v w = ShowsAt v w path (Some (dir mode))
-changed (Create path mode) u v w = ShowsAt v w path (Some (file mode (content_kinds.Bytes [])))
-changed (Put path mode size digest) u v w = ShowsAt v w path (Some (file mode (content_kinds.Sized size digest)))
+changed (Mkdir path mode) u v w = ShowsAt v w path (Some (dir (record { mode = mode })))
+changed (Create path mode) u v w = ShowsAt v w path (Some (file (record { mode = mode }) (content_kinds.Bytes [])))
+changed (Put path mode size digest) u v w = ShowsAt v w path (Some (file (record { mode = mode }) (content_kinds.Sized size digest)))
 changed (Write path offset bytes) u v w = Turns u v w path (with_file_content (λ old. written old offset bytes))
 changed (Truncate path size) u v w = Turns u v w path (with_file_content (λ old. resized old size))
 changed (SetMode path mode) u v w = Turns u v w path (with_object_mode mode)

@@ -7,8 +7,9 @@ use Rattle.snap_layer.specs.declared.bytes.Edit.TheVariants.{Keep}
 use Rattle.snap_layer.specs.Contents.{edited, size_of, IsContent, IsShort}
 use Rattle.snap_layer.specs.declared.content.Content.{Content}
 use Rattle.snap_layer.specs.declared.content.Content.TheVariants as content_kinds
-use Rattle.snap_layer.specs.Edits.{HasMode, IsFree, IsInnerDir, with_mode, with_opaque}
-use Rattle.snap_merge.specs.Objects.{Object, file, seen, is_shown_dir, AreLayers}
+use Rattle.snap_layer.specs.Edits.{HasMode, IsFree, IsInnerDir, with_mode, with_opaque, meta_with_mode}
+use Rattle.snap_merge.specs.Objects.{Object, dir, file, seen, AreLayers}
+use Rattle.snap_layer.specs.declared.node.Meta.{Meta}
 use Rattle.snap_layer.specs.declared.node.Body.TheVariants as body_kinds
 use Rattle.snap_merge.specs.Walk.{walk_error}
 use Rattle.snap_copyup.specs.declared.parents.Last.{Last}
@@ -26,26 +27,26 @@ use Rattle.snap_upper.specs.After.{Outcome, after, limited, with_content, erased
 
 -- what is put, with its content
 abbrev pub as_last : New → Last
-as_last (Dir mode opaque) = last.Dir mode opaque
-as_last (Empty mode) = last.File mode (content_kinds.Bytes [])
-as_last (Sized mode size digest) = last.File mode (content_kinds.Sized size (option_copied digest))
-as_last (File mode old edit) = last.File mode (edited edit old.now)
+as_last (Dir meta opaque) = last.Dir meta opaque
+as_last (Empty meta) = last.File meta (content_kinds.Bytes [])
+as_last (Sized meta size digest) = last.File meta (content_kinds.Sized size (option_copied digest))
+as_last (File meta old edit) = last.File meta (edited edit old.now)
 as_last (Symlink target) = last.Symlink target.now
 
 -- it takes a file number
 abbrev pub is_numbered : New → Bool
-is_numbered (Dir mode opaque) = false
-is_numbered (Empty mode) = true
-is_numbered (Sized mode size digest) = true
-is_numbered (File mode old edit) = true
+is_numbered (Dir meta opaque) = false
+is_numbered (Empty meta) = true
+is_numbered (Sized meta size digest) = true
+is_numbered (File meta old edit) = true
 is_numbered (Symlink target) = true
 
 -- its content is within its limits: that of a layer's file is changed by a short edit
 abbrev pub IsSound : New → Type 0
-IsSound (Dir mode opaque) = Unit {0}
-IsSound (Empty mode) = Unit {0}
-IsSound (Sized mode size digest) = IsContent (content_kinds.Sized size (option_copied digest))
-IsSound (File mode old edit) = IsShort edit old.now × IsContent (edited edit old.now)
+IsSound (Dir meta opaque) = Unit {0}
+IsSound (Empty meta) = Unit {0}
+IsSound (Sized meta size digest) = IsContent (content_kinds.Sized size (option_copied digest))
+IsSound (File meta old edit) = IsShort edit old.now × IsContent (edited edit old.now)
 IsSound (Symlink target) = Unit {0}
 
 -- the next layer, or the error of one that passes the limits
@@ -64,7 +65,7 @@ outcome (Move from to leaves covers) u lowers = limited (renamed u lowers from.n
 abbrev pub IsReady : Change → Tree → List Tree → Type 0
 IsReady Nothing u lowers = Unit {0}
 IsReady (Put path new) u lowers = (walk_error (u ∷ lowers) path.now ≡ None) × CanStand (as_last new) u path.now × IsSound new
-IsReady (Fill number size edit) u lowers = (m : ℕ) × (old : Content) × (body u number ≡ Some (body_kinds.File m old)) × (size ≡ size_of old) × IsShort edit old × IsContent (edited edit old)
+IsReady (Fill number size edit) u lowers = (m : Meta) × (old : Content) × (body u number ≡ Some (body_kinds.File m old)) × (size ≡ size_of old) × IsShort edit old × IsContent (edited edit old)
 IsReady (SetMode path mode) u lowers = HasMode (at u path.now) × (mode ≤ most_mode)
 IsReady (SetOpaque path) u lowers = IsDirAt (at u path.now)
 IsReady (Erase path covers) u lowers = (walk_error (u ∷ lowers) path.now ≡ None) × (is_some (seen (u ∷ lowers) path.now) ≡ true) × (path.now ≡ [] → ⊥) × ((n : List ℕ) → IsFree (at u (path.now ++ n ∷ []))) × (covers ≡ is_some (below u lowers path.now))
@@ -84,12 +85,12 @@ IsInPlace (EraseTree path covers) u = ⊥
 IsInPlace (Link from to) u = ⊥
 IsInPlace (Move from to leaves covers) u = ⊥
 
--- it is the directory or file that is seen, with the mode
+-- it is the directory or file that is seen, with another mode
 abbrev pub IsWithMode : New → Option Object → ℕ → Type 0
-IsWithMode (Dir mode opaque) o m = (is_shown_dir o ≡ true) × (mode ≡ m) × (opaque ≡ false)
-IsWithMode (Empty mode) o m = ⊥
-IsWithMode (Sized mode size digest) o m = ⊥
-IsWithMode (File mode old edit) o m = (n : ℕ) × (o ≡ Some (file n old.now)) × (mode ≡ m) × (edit ≡ Keep)
+IsWithMode (Dir meta opaque) o m = (n : Meta) × (o ≡ Some (dir n)) × (meta ≡ meta_with_mode n m) × (opaque ≡ false)
+IsWithMode (Empty meta) o m = ⊥
+IsWithMode (Sized meta size digest) o m = ⊥
+IsWithMode (File meta old edit) o m = (n : Meta) × (o ≡ Some (file n old.now)) × (meta ≡ meta_with_mode n m) × (edit ≡ Keep)
 IsWithMode (Symlink target) o m = ⊥
 
 -- it is the change of the operation

@@ -9,7 +9,7 @@ ghost use Rattle.snap_upper.specs.Changes.{as_last, is_numbered, IsSound};
 ghost use Rattle.snap_upper.specs.After.{is_whiteout_at};
 
 use snap_copyup::Last;
-use snap_layer::{Bytes, Content, Edit, Layer, Node};
+use snap_layer::{Bytes, Content, Edit, Layer, Meta, Node};
 use snap_path::Path;
 use snap_usage::blocks_of;
 use std::alloc::{AllocError, Global};
@@ -18,22 +18,22 @@ use std::alloc::{AllocError, Global};
 #[derive(Clone, Copy)]
 pub(crate) enum New<'a> {
     Dir {
-        mode: u32,
+        meta: Meta,
         opaque: bool,
     },
     /// A file without bytes.
     Empty {
-        mode: u32,
+        meta: Meta,
     },
     /// A file of a size, whose bytes aren't kept.
     Sized {
-        mode: u32,
+        meta: Meta,
         size: u64,
         digest: Option<&'a Bytes>,
     },
     /// A file with what the edit makes of the old content.
     File {
-        mode: u32,
+        meta: Meta,
         old: &'a Content,
         edit: Edit<'a>,
     },
@@ -128,18 +128,18 @@ impl<'a> New<'a> {
         ensures { IfOk result (λ last. last ≡ as_last self.entry) }
     {
         match self {
-            New::Dir { mode, opaque } => Ok(Last::Dir { mode, opaque }),
-            New::Empty { mode } => Ok(Last::File {
-                mode,
+            New::Dir { meta, opaque } => Ok(Last::Dir { meta, opaque }),
+            New::Empty { meta } => Ok(Last::File {
+                meta,
                 content: Content::empty(alloc),
             }),
-            New::Sized { mode, size, digest } => {
+            New::Sized { meta, size, digest } => {
                 let digest = copy_of(digest)?;
                 let content = Content::Sized { size, digest };
-                Ok(Last::File { mode, content })
+                Ok(Last::File { meta, content })
             }
-            New::File { mode, old, edit } => Ok(Last::File {
-                mode,
+            New::File { meta, old, edit } => Ok(Last::File {
+                meta,
                 content: edit.content(alloc, old)?,
             }),
             New::Symlink { target } => Ok(Last::Symlink {

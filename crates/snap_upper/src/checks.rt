@@ -1,10 +1,11 @@
 // The tests that an operation has to pass.
-ghost use Rattle.std.specs.Prelude.{◌≡◌, ℕ, ◌⊎◌, ◌==◌, [], ◌∷◌, is_some, true, false, None, Some, OnOk, IfErr, MatchOption, ◌||◌, ◌&&◌, not, IfOk, Ok, Err};
+ghost use Rattle.std.specs.Prelude.{◌≡◌, ◌⊎◌, ◌==◌, [], ◌∷◌, is_some, true, false, None, Some, OnOk, IfErr, MatchOption, ◌||◌, ◌&&◌, not, IfOk, Ok, Err};
 ghost use Rattle.std.specs.Option.{option_map};
 ghost use Rattle.std.specs.Result.{result_err};
 ghost use Rattle.std.specs.List.{list_any};
 ghost use Rattle.snap_path.specs.Memory.{no_memory};
 ghost use Rattle.snap_path.specs.Text.{begins};
+ghost use Rattle.snap_layer.specs.declared.node.Meta.{Meta};
 ghost use Rattle.snap_layer.specs.Contents.{most_bytes, size_of};
 ghost use Rattle.snap_layer.specs.Layers.{IsLayer};
 ghost use Rattle.snap_layer.specs.declared.content.Content.{Content as ContentValue};
@@ -17,7 +18,7 @@ ghost use Rattle.snap_upper.specs.declared.op.Op.TheVariants as op;
 
 use super::change::own_number;
 use snap_copyup::{below, is_pure_over};
-use snap_layer::{Bytes, Content, Layer, Shared};
+use snap_layer::{Bytes, Content, Layer, Meta, Shared};
 use snap_merge::{FsError, Seen, Stack, is_dir};
 use snap_path::Path;
 use snap_path::limits::{MAX_DIGEST_BYTES, MAX_MODE, MAX_SIZED_BYTES, MAX_TARGET_BYTES};
@@ -85,7 +86,7 @@ pub(crate) fn check_write(
     bytes: &Bytes,
 ) -> Result<u64, FsError>
     ensures error { result_err result ≡ first_error (tests (op.Write path.now offset bytes.now) stack.now) }
-    ensures size { IfOk result (λ n. (m : ℕ) (old : ContentValue) → seen stack.now path.now ≡ Some (file m old) → n ≡ size_of old) }
+    ensures size { IfOk result (λ n. (m : Meta) (old : ContentValue) → seen stack.now path.now ≡ Some (file m old) → n ≡ size_of old) }
     ensures layers { AreLayers stack.now }
 {
     let old = check_file(stack.walk_to(path)?)?;
@@ -99,7 +100,7 @@ pub(crate) fn check_write(
 /// Tests whether the file at the path can be given so many bytes, and gives the file's size.
 pub(crate) fn check_truncate(stack: &Stack<'_>, path: &Path, size: u64) -> Result<u64, FsError>
     ensures error { result_err result ≡ first_error (tests (op.Truncate path.now size) stack.now) }
-    ensures size { IfOk result (λ n. (m : ℕ) (old : ContentValue) → seen stack.now path.now ≡ Some (file m old) → n ≡ size_of old) }
+    ensures size { IfOk result (λ n. (m : Meta) (old : ContentValue) → seen stack.now path.now ≡ Some (file m old) → n ≡ size_of old) }
     ensures layers { AreLayers stack.now }
 {
     let old = check_file(stack.walk_to(path)?)?;
@@ -154,7 +155,7 @@ fn has_nul(bytes: &[u8]) -> bool
 fn check_file<'a>(found: Option<Seen<'a>>) -> Result<&'a Content, FsError>
     ensures error { result_err result ≡ error_by_kind (Some FsError.IsDir) None (Some FsError.Invalid) (option_map object found.entry) }
     ensures most { IfOk result (λ own. most_of (option_map object found.entry) ≡ most_bytes own.now) }
-    ensures size { IfOk result (λ own. (m : ℕ) (old : ContentValue) → option_map object found.entry ≡ Some (file m old) → size_of own.now ≡ size_of old) }
+    ensures size { IfOk result (λ own. (m : Meta) (old : ContentValue) → option_map object found.entry ≡ Some (file m old) → size_of own.now ≡ size_of old) }
 {
     match found {
         Some(Seen::File { content, .. }) => Ok(content),
@@ -270,13 +271,13 @@ fn check_empty(
     Ok(())
 }
 
-/// Tests whether a directory is seen, and gives its mode.
-fn check_dir(found: Option<Seen<'_>>) -> Result<u32, FsError>
+/// Tests whether a directory is seen, and gives its `Meta`.
+fn check_dir(found: Option<Seen<'_>>) -> Result<Meta, FsError>
     ensures error { result_err result ≡ error_by_kind None (Some FsError.NotDir) (Some FsError.NotDir) (option_map object found.entry) }
-    ensures mode { IfOk result (λ m. option_map object found.entry ≡ Some (dir m)) }
+    ensures meta { IfOk result (λ m. option_map object found.entry ≡ Some (dir m)) }
 {
     match found {
-        Some(Seen::Dir { mode }) => Ok(mode),
+        Some(Seen::Dir { meta }) => Ok(meta),
         Some(Seen::File { .. }) => Err(FsError::NotDir),
         Some(Seen::Symlink { .. }) => Err(FsError::NotDir),
         None => Err(FsError::NotFound),
@@ -302,10 +303,10 @@ pub(crate) fn check_whiteout<'a>(
     Ok(found)
 }
 
-/// Tests whether a directory is seen at the path, and gives its mode.
-pub(crate) fn check_opaque(stack: &Stack<'_>, path: &Path) -> Result<u32, FsError>
+/// Tests whether a directory is seen at the path, and gives its `Meta`.
+pub(crate) fn check_opaque(stack: &Stack<'_>, path: &Path) -> Result<Meta, FsError>
     ensures error { result_err result ≡ first_error (tests (op.Opaque path.now) stack.now) }
-    ensures mode { IfOk result (λ m. seen stack.now path.now ≡ Some (dir m)) }
+    ensures meta { IfOk result (λ m. seen stack.now path.now ≡ Some (dir m)) }
     ensures layers { AreLayers stack.now }
 {
     check_dir(stack.walk_to(path)?)

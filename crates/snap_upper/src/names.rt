@@ -218,8 +218,8 @@ fn put_body(layer: &mut Layer, path: &Path, body: Body) -> Result<(), FsError>
     ensures unchanged { OnErr result (layer.new ≡ layer.old) }
 {
     match body {
-        Body::File { mode, content } => {
-            layer.add_file(path, mode, content)?;
+        Body::File { meta, content } => {
+            layer.add_file(path, meta, content)?;
         }
         Body::Symlink { target } => {
             layer.add_symlink(path, target)?;

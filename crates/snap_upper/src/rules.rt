@@ -1,6 +1,7 @@
 // The rule of each operation: its tests, and the change that it makes where they pass.
-ghost use Rattle.std.specs.Prelude.{◌≡◌, ◌⊎◌, ◌∷◌, ℕ, Some, None, IfOk, IfErr, Err, false, is_some};
+ghost use Rattle.std.specs.Prelude.{◌≡◌, ◌⊎◌, ◌∷◌, Some, None, IfOk, IfErr, Err, false, is_some};
 ghost use Rattle.snap_path.specs.Memory.{no_memory};
+ghost use Rattle.snap_layer.specs.declared.node.Meta.{Meta};
 ghost use Rattle.snap_layer.specs.Layers.{IsLayer};
 ghost use Rattle.snap_layer.specs.Tree.{at, number_at};
 ghost use Rattle.snap_layer.specs.Contents.{edited, size_of, IsShort};
@@ -21,7 +22,7 @@ use super::checks::{
 };
 use super::op::Op;
 use snap_copyup::below;
-use snap_layer::{Bytes, Edit, Layer, Shared};
+use snap_layer::{Bytes, Edit, Layer, Meta, Shared};
 use snap_merge::{FsError, Seen, Stack};
 use snap_path::Path;
 
@@ -73,8 +74,9 @@ fn mkdir<'a>(
     ensures error { IfErr result (λ e. after (op.Mkdir path.now mode) layer.now lowers.now ≡ Err e) }
 {
     check_new(&Stack::over(layer, lowers), path, mode)?;
+    let meta = Meta { mode };
     let opaque = is_whiteout(layer.at(path));
-    let new = New::Dir { mode, opaque };
+    let new = New::Dir { meta, opaque };
     Ok(Change::Put { path, new })
 }
 
@@ -89,7 +91,8 @@ fn create<'a>(
     ensures error { IfErr result (λ e. after (op.Create path.now mode) layer.now lowers.now ≡ Err e) }
 {
     check_new(&Stack::over(layer, lowers), path, mode)?;
-    let new = New::Empty { mode };
+    let meta = Meta { mode };
+    let new = New::Empty { meta };
     Ok(Change::Put { path, new })
 }
 
@@ -106,8 +109,9 @@ fn put<'a>(
     ensures error { IfErr result (λ e. after (op.Put path.now mode size digest.now) layer.now lowers.now ≡ Err e) }
 {
     check_put(&Stack::over(layer, lowers), path, mode, size, digest)?;
+    let meta = Meta { mode };
     let digest = digest.as_ref();
-    let new = New::Sized { mode, size, digest };
+    let new = New::Sized { meta, size, digest };
     Ok(Change::Put { path, new })
 }
 
@@ -175,9 +179,9 @@ fn editing<'a>(
     requires layer { IsLayer layer.now }
     requires layers { AreLayers lowers.now }
     requires way { walk_error (layer.now ∷ lowers.now) path.now ≡ None }
-    requires there { (m : ℕ) × (old : ContentValue) × (seen (layer.now ∷ lowers.now) path.now ≡ Some (file m old)) }
-    requires size { (m : ℕ) (old : ContentValue) → seen (layer.now ∷ lowers.now) path.now ≡ Some (file m old) → size ≡ size_of old }
-    requires short { (m : ℕ) (old : ContentValue) → seen (layer.now ∷ lowers.now) path.now ≡ Some (file m old) → IsShort edit old }
+    requires there { (m : Meta) × (old : ContentValue) × (seen (layer.now ∷ lowers.now) path.now ≡ Some (file m old)) }
+    requires size { (m : Meta) (old : ContentValue) → seen (layer.now ∷ lowers.now) path.now ≡ Some (file m old) → size ≡ size_of old }
+    requires short { (m : Meta) (old : ContentValue) → seen (layer.now ∷ lowers.now) path.now ≡ Some (file m old) → IsShort edit old }
     ensures ok { IfOk result (λ c. IsReady c layer.now lowers.now × (outcome c layer.now lowers.now ≡ limited (with_content (copied_up layer.now lowers.now path.now) (number_at (copied_up layer.now lowers.now path.now) path.now) (edited edit.entry)))) }
     ensures in_place { IfOk result (λ c. IsNoGrowth layer.now (number_at layer.now path.now) (edited edit.entry) → IsInPlace c layer.now) }
     ensures sure { IfErr result (λ e. ⊥) }
@@ -185,11 +189,11 @@ fn editing<'a>(
     if let Some(number) = own_number(layer, path) {
         return Ok(Change::Fill { number, size, edit });
     }
-    let Some(Seen::File { mode, content }) = below(layer, lowers, path) else {
+    let Some(Seen::File { meta, content }) = below(layer, lowers, path) else {
         return Err(FsError::NotFound);
     };
     let old = content;
-    let new = New::File { mode, old, edit };
+    let new = New::File { meta, old, edit };
     Ok(Change::Put { path, new })
 }
 
@@ -224,14 +228,16 @@ fn lower_with<'a>(
     ensures sure { IfErr result (λ e. ⊥) }
 {
     match below(layer, lowers, path) {
-        Some(Seen::Dir { .. }) => {
+        Some(Seen::Dir { meta }) => {
+            let meta = Meta { mode, ..meta };
             let opaque = false;
-            Ok(New::Dir { mode, opaque })
+            Ok(New::Dir { meta, opaque })
         }
-        Some(Seen::File { content, .. }) => {
+        Some(Seen::File { meta, content }) => {
+            let meta = Meta { mode, ..meta };
             let old = content;
             let edit = Edit::Keep;
-            Ok(New::File { mode, old, edit })
+            Ok(New::File { meta, old, edit })
         }
         _ => Err(FsError::NotFound),
     }
@@ -299,12 +305,12 @@ fn opaque<'a>(layer: &Layer, lowers: &'a [Shared], path: &'a Path) -> Result<Cha
     ensures layer { IsLayer layer.now }
     ensures error { IfErr result (λ e. after (op.Opaque path.now) layer.now lowers.now ≡ Err e) }
 {
-    let mode = check_opaque(&Stack::over(layer, lowers), path)?;
+    let meta = check_opaque(&Stack::over(layer, lowers), path)?;
     if layer.at(path).is_some() {
         return Ok(Change::SetOpaque { path });
     }
     let opaque = true;
-    let new = New::Dir { mode, opaque };
+    let new = New::Dir { meta, opaque };
     Ok(Change::Put { path, new })
 }
 

@@ -4,6 +4,7 @@ ghost use Rattle.snap_path.specs.Memory.{no_memory};
 ghost use Rattle.snap_layer.specs.Layers.{IsLayer};
 ghost use Rattle.snap_layer.specs.Tree.{at, body};
 ghost use Rattle.snap_layer.specs.Edits.{IsFree, IsInnerDir};
+ghost use Rattle.snap_layer.specs.declared.node.Meta.{Meta};
 ghost use Rattle.snap_layer.specs.declared.node.Body.TheVariants as body_kinds;
 ghost use Rattle.snap_layer.specs.Contents.{edited, IsShort};
 ghost use Rattle.snap_layer.specs.declared.content.Content.{Content as ContentValue};
@@ -180,7 +181,7 @@ fn put_new(layer: &mut Layer, lowers: &[Shared], path: &Path, new: New<'_>) -> R
 
 /// Edits the layer's file with the number, in place.
 fn fill(layer: &mut Layer, number: u32, edit: Edit<'_>) -> Result<(), FsError>
-    requires there { (m : ℕ) × (old : ContentValue) × (body layer.old number ≡ Some (body_kinds.File m old)) × IsShort edit old }
+    requires there { (m : Meta) × (old : ContentValue) × (body layer.old number ≡ Some (body_kinds.File m old)) × IsShort edit old }
     ensures ok { OnOk result (limited (with_content layer.old (Some number) (edited edit.entry)) ≡ Ok layer.new) }
     ensures error { IfErr result (λ e. e ≡ FsError.OutOfMemory no_memory) }
     ensures sure { IsNoGrowth layer.old (Some number) (edited edit.entry) → IfErr result (λ e. ⊥) }

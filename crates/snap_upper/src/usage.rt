@@ -7,6 +7,7 @@ ghost use Rattle.snap_layer.specs.Layers.{IsLayer};
 ghost use Rattle.snap_layer.specs.Tree.{Tree, at, body, IsDirAt};
 ghost use Rattle.snap_layer.specs.Counts.{block_count, inode_count, most_inodes, most_file_blocks};
 ghost use Rattle.snap_layer.specs.Edits.{IsFree, IsInnerDir, HasMode, with_mode, with_opaque, without};
+ghost use Rattle.snap_layer.specs.declared.node.Meta.{Meta};
 ghost use Rattle.snap_layer.specs.declared.node.Body.TheVariants as body_kinds;
 ghost use Rattle.snap_layer.specs.Contents.{edited, size_of, IsContent, IsShort};
 ghost use Rattle.snap_layer.specs.declared.content.Content.{Content as ContentValue};
@@ -295,7 +296,7 @@ fn fitting(layer: &Layer, after: Usage, numbered: bool) -> Result<Planned, FsErr
 
 /// How much the layer takes where its file with the number, which has so many bytes, is edited.
 fn plan_filling(layer: &Layer, number: u32, size: u64, edit: Edit<'_>) -> Result<Planned, FsError>
-    requires there { (m : ℕ) × (old : ContentValue) × (body layer.now number ≡ Some (body_kinds.File m old)) × (size ≡ size_of old) × IsShort edit old × IsContent (edited edit old) }
+    requires there { (m : Meta) × (old : ContentValue) × (body layer.now number ≡ Some (body_kinds.File m old)) × (size ≡ size_of old) × IsShort edit old × IsContent (edited edit old) }
     ensures { result ≡ planned (limited (with_content layer.now (Some number) (edited edit.entry))) }
 {
     let now = count(layer);

@@ -43,7 +43,7 @@ names_of_number k [] = refl
 names_of_number k (e ∷ es) = by e.1 (names_of_number k es) ∙ sym (sum_by-cons (λ n. cond (has_number k n) 1 0) e.1 (values_of es))
   where
     by : (n : Node) → occurs k (numbers_of es) ≡ name_count k es → occurs k (filter_map number_of (n ∷ values_of es)) ≡ cond (has_number k n) 1 0 + name_count k es
-    by (Dir mode opaque) later = omega (arith, later)
+    by (Dir meta opaque) later = omega (arith, later)
     by (File j) later = omega (arith, later, sum_by-cons (one_at k) j (numbers_of es))
     by (Symlink j) later = omega (arith, later, sum_by-cons (one_at k) j (numbers_of es))
     by Whiteout later = omega (arith, later)

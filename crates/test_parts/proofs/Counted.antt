@@ -10,22 +10,22 @@ use Rattle.snap_merge.specs.Taken.{parts_below, disk_usage}
 use Rattle.snap_diff.specs.declared.change.ChangeKind.TheVariants.{Changed}
 use Rattle.snap_diff.specs.Changes.{changes, changes_below, page}
 
-pub root_taken : disk_usage (root_only 493 1 ∷ []) [] ≡ Ok (record { blocks = 1; inodes = 1 })
+pub root_taken : disk_usage (root_only (record { mode = 493 }) 1 ∷ []) [] ≡ Ok (record { blocks = 1; inodes = 1 })
 unfolding parts_below
 root_taken = refl
 
-pub root_changed : page None 64 (changes (root_only 448 1) (root_only 493 1 ∷ [])) ≡ record { kind = Changed; path = [] } ∷ []
+pub root_changed : page None 64 (changes (root_only (record { mode = 448 }) 1) (root_only (record { mode = 493 }) 1 ∷ [])) ≡ record { kind = Changed; path = [] } ∷ []
 unfolding changes_below
 root_changed = refl
 
 -- a layer with a file at /f that nobody knows
 abbrev pub unknown : Tree
-unknown = with_new (root_only 493 1) ((102 ∷ []) ∷ []) (node_kinds.File 1) (body_kinds.File 420 (Sized 10 None))
+unknown = with_new (root_only (record { mode = 493 }) 1) ((102 ∷ []) ∷ []) (node_kinds.File 1) (body_kinds.File (record { mode = 420 }) (Sized 10 None))
 
 pub unknown_changed : page None 64 (changes unknown (unknown ∷ [])) ≡ record { kind = Changed; path = (102 ∷ []) ∷ [] } ∷ []
 unfolding changes_below
 unknown_changed = refl
 
-pub unknown_untouched : page None 64 (changes (root_only 493 1) (unknown ∷ [])) ≡ []
+pub unknown_untouched : page None 64 (changes (root_only (record { mode = 493 }) 1) (unknown ∷ [])) ≡ []
 unfolding changes_below
 unknown_untouched = refl

@@ -1,6 +1,6 @@
 // Edits of a layer, and what they make of its nodes and of its usage.
 use crate::setup::{layer, path};
-use snap_layer::{Body, Bytes, Content, Layer, LayerError, Node};
+use snap_layer::{Body, Bytes, Content, Layer, LayerError, Meta, Node};
 use snap_path::Path;
 use snap_path::limits::DEFAULT_MODE;
 use snap_usage::{count, recount};
@@ -22,7 +22,7 @@ fn the_root_alone(rt: HostRuntime) {
     prove!(matches!(
         &node,
         Some(Node::Dir {
-            mode: 448,
+            meta: Meta { mode: 448 },
             opaque: true
         })
     ));
@@ -34,7 +34,7 @@ fn equal_layers(rt: HostRuntime) {
     let copy = layer.copy().expect(&rt, "memory for a copy");
     let same = copy == layer;
     prove!(same);
-    let other = Layer::empty_from(rt.alloc(), DEFAULT_MODE, 7);
+    let other = Layer::empty_from(rt.alloc(), Meta { mode: DEFAULT_MODE }, 7);
     let other = other.expect(&rt, "memory for a layer");
     let same = other == layer;
     prove!(!same);
@@ -62,7 +62,7 @@ fn a_file(rt: HostRuntime) {
     let bytes = Bytes::copy_of(rt.alloc(), b"hi").expect(&rt, "memory for bytes");
     assert!(rt; layer.has_place(&path));
     let number = layer
-        .add_file(&path, 420, Content::Bytes(bytes))
+        .add_file(&path, Meta { mode: 420 }, Content::Bytes(bytes))
         .expect(&rt, "memory for a file");
     prove!(number == 1);
     let usage = count(&layer);
@@ -77,7 +77,8 @@ fn a_file_with_two_names(rt: HostRuntime) {
     let bytes = Bytes::copy_of(rt.alloc(), b"hi").expect(&rt, "memory for bytes");
     assert!(rt; layer.has_rooms(&file, &link));
     let content = Content::Bytes(bytes);
-    let added = layer.add_linked(&file, &link, Body::File { mode: 420, content });
+    let meta = Meta { mode: 420 };
+    let added = layer.add_linked(&file, &link, Body::File { meta, content });
     added.expect(&rt, "memory for a file");
     let usage = count(&layer);
     prove!(usage.blocks == 2);
@@ -90,24 +91,25 @@ fn a_file_with_two_names(rt: HostRuntime) {
 
 #[test]
 fn file_numbers_end(rt: HostRuntime) {
-    let last = Layer::empty_from(rt.alloc(), DEFAULT_MODE, 4_294_967_295);
+    let last = Layer::empty_from(rt.alloc(), Meta { mode: DEFAULT_MODE }, 4_294_967_295);
     let mut layer = last.expect(&rt, "memory for a layer");
     let path = path(&rt, rt.alloc(), "/f");
     assert!(rt; layer.has_place(&path));
-    let refused = layer.add_file(&path, 420, Content::empty(rt.alloc()));
+    let refused = layer.add_file(&path, Meta { mode: 420 }, Content::empty(rt.alloc()));
     prove!(matches!(&refused, Err(LayerError::LayerFull)));
 }
 
 #[test]
 fn inodes_end(rt: HostRuntime) {
-    let few = Layer::within(rt.alloc(), DEFAULT_MODE, 3);
+    let few = Layer::within(rt.alloc(), Meta { mode: DEFAULT_MODE }, 3);
     let mut layer = few.expect(&rt, "memory for a layer");
     let most = layer.most_inodes();
     prove!(most == 3);
     let (file, link) = (path(&rt, rt.alloc(), "/f"), path(&rt, rt.alloc(), "/g"));
     let content = Content::empty(rt.alloc());
     assert!(rt; layer.has_rooms(&file, &link));
-    let added = layer.add_linked(&file, &link, Body::File { mode: 420, content });
+    let meta = Meta { mode: 420 };
+    let added = layer.add_linked(&file, &link, Body::File { meta, content });
     added.expect(&rt, "memory for a file");
     let whiteout = path(&rt, rt.alloc(), "/h");
     assert!(rt; layer.has_place(&whiteout));

@@ -8,7 +8,7 @@ ghost use Rattle.snap_layer.specs.Edits.{root_only, with_new};
 use crate::setup::{layer, path};
 use snap_copyup::{below, is_pure};
 use snap_diff::changes;
-use snap_layer::{Content, Layer, Shared};
+use snap_layer::{Content, Layer, Meta, Shared};
 use snap_merge::{FsError, Seen, Stack, hides};
 use snap_path::Path;
 use snap_path::limits::DEFAULT_MODE;
@@ -17,14 +17,14 @@ use std::process::Abort;
 
 /// A lower layer with a root of mode octal 755.
 fn lower<R: Abort>(rt: &R, alloc: Global) -> Shared
-    ensures { result ≡ root_only 493 1 }
+    ensures { result ≡ root_only (record { mode = 493 }) 1 }
 {
     Shared::new(layer(rt, alloc, DEFAULT_MODE)).expect(rt, "memory for a lower layer")
 }
 
 /// A layer with a file of 10 bytes at `/f`, which nobody knows.
 fn unknown<R: Abort>(rt: &R, alloc: Global) -> Layer
-    ensures { result ≡ with_new (root_only 493 1) ((102 ∷ []) ∷ []) (node_kinds.File 1) (body_kinds.File 420 (content_kinds.Sized 10 None)) }
+    ensures { result ≡ with_new (root_only (record { mode = 493 }) 1) ((102 ∷ []) ∷ []) (node_kinds.File 1) (body_kinds.File (record { mode = 420 }) (content_kinds.Sized 10 None)) }
 {
     let mut layer = layer(rt, alloc, DEFAULT_MODE);
     let path = path(rt, alloc, "/f");
@@ -33,7 +33,7 @@ fn unknown<R: Abort>(rt: &R, alloc: Global) -> Layer
         size: 10,
         digest: None,
     };
-    let added = layer.add_file(&path, 420, content);
+    let added = layer.add_file(&path, Meta { mode: 420 }, content);
     added.expect(rt, "memory for a file");
     layer
 }
@@ -43,9 +43,19 @@ fn what_roots_show(rt: HostRuntime) {
     let root = Path::root(rt.alloc());
     let (lowers, top) = ([lower(&rt, rt.alloc())], layer(&rt, rt.alloc(), 448));
     let seen = Stack::over(&top, &lowers).look(&root);
-    prove!(matches!(&seen, Some(Seen::Dir { mode: 448 })));
+    prove!(matches!(
+        &seen,
+        Some(Seen::Dir {
+            meta: Meta { mode: 448 }
+        })
+    ));
     let under = Stack::of(&lowers).look(&root);
-    prove!(matches!(&under, Some(Seen::Dir { mode: DEFAULT_MODE })));
+    prove!(matches!(
+        &under,
+        Some(Seen::Dir {
+            meta: Meta { mode: DEFAULT_MODE }
+        })
+    ));
 }
 
 #[test]
@@ -126,5 +136,10 @@ fn an_opaque_root_is_pure(rt: HostRuntime) {
     let hidden = hides(&layer, &path(&rt, rt.alloc(), "/a"));
     prove!(hidden);
     let under = below(&layer, &lowers, &root);
-    prove!(matches!(&under, Some(Seen::Dir { mode: DEFAULT_MODE })));
+    prove!(matches!(
+        &under,
+        Some(Seen::Dir {
+            meta: Meta { mode: DEFAULT_MODE }
+        })
+    ));
 }

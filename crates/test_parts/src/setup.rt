@@ -4,7 +4,7 @@ ghost use Rattle.snap_layer.specs.Edits.{root_only};
 ghost use Rattle.snap_path.specs.Text.{path_names};
 ghost use Rattle.test_parts.specs.Worked.{usage};
 
-use snap_layer::Layer;
+use snap_layer::{Layer, Meta};
 use snap_path::Path;
 use snap_record::Text;
 use snap_usage::Usage;
@@ -45,7 +45,7 @@ pub fn text<R: Abort>(rt: &R, alloc: Global, text: &str) -> Text
 /// A layer of the root alone.
 pub fn layer<R: Abort>(rt: &R, alloc: Global, mode: u32) -> Layer
     requires { mode ≤ 4095 }
-    ensures { result ≡ root_only mode 1 }
+    ensures { result ≡ root_only (record { mode = mode }) 1 }
 {
-    Layer::empty(alloc, mode).expect(rt, "memory for a layer")
+    Layer::empty(alloc, Meta { mode }).expect(rt, "memory for a layer")
 }

@@ -1,7 +1,7 @@
 // Stacks of layers that operations have made, and a copy-up.
 use crate::setup::{equal, holds, layer, path, usage};
 use snap_copyup::copy_up;
-use snap_layer::{Bytes, Layer, Node, Shared};
+use snap_layer::{Bytes, Layer, Meta, Node, Shared};
 use snap_merge::{FsError, Stack};
 use snap_path::limits::DEFAULT_MODE;
 use snap_upper::{Op, apply};
@@ -72,8 +72,8 @@ fn with_a_whiteout<R: Abort>(rt: &R, alloc: Global, lowest: &[Shared]) -> Shared
 fn shows_an_empty_directory<R: Abort>(rt: &R, alloc: Global, top: &Layer, lowers: &[Shared]) {
     let a = path(rt, alloc, "/a");
     equal(rt, count(top), usage(2, 2));
-    let (mode, opaque) = (DEFAULT_MODE, false);
-    equal(rt, top.at(&a), Some(Node::Dir { mode, opaque }));
+    let (meta, opaque) = (Meta { mode: DEFAULT_MODE }, false);
+    equal(rt, top.at(&a), Some(Node::Dir { meta, opaque }));
     let listed = Stack::over(top, lowers).list(alloc, &a);
     equal(rt, listed.map(|names| names.len()), Ok(0));
 }

@@ -5,7 +5,7 @@ ghost use Rattle.snap_layer.specs.Edits.{with_entry};
 ghost use Rattle.snap_upper.specs.After.{after, lists_names, planned};
 
 use crate::setup::{equal, holds, layer, path, usage};
-use snap_layer::{Layer, Node};
+use snap_layer::{Layer, Meta, Node};
 use snap_merge::FsError;
 use snap_path::Path;
 use snap_path::limits::DEFAULT_MODE;
@@ -66,7 +66,7 @@ fn a_whiteout_of_nothing_is_refused(rt: HostRuntime) {
 
 #[test]
 fn no_number_is_left(rt: HostRuntime) {
-    let last = Layer::empty_from(rt.alloc(), DEFAULT_MODE, 4_294_967_295);
+    let last = Layer::empty_from(rt.alloc(), Meta { mode: DEFAULT_MODE }, 4_294_967_295);
     let layer = last.expect(&rt, "memory for a layer");
     let (path, mode) = (path(&rt, rt.alloc(), "/f"), 420);
     let answer = plan_alone(&layer, Op::Create { path, mode });
@@ -75,17 +75,17 @@ fn no_number_is_left(rt: HostRuntime) {
 
 // Adds a directory to the layer.
 fn add_dir<R: Abort>(rt: &R, layer: &mut Layer, text: &str)
-    ensures { layer.new ≡ with_entry layer.old (path_names text.now) (Node.Dir 493 false) }
+    ensures { layer.new ≡ with_entry layer.old (path_names text.now) (Node.Dir (record { mode = 493 }) false) }
 {
     let path = path(rt, layer.alloc(), text);
     holds(rt, layer.has_room(&path));
-    let added = layer.add_dir(&path, DEFAULT_MODE, false);
+    let added = layer.add_dir(&path, Meta { mode: DEFAULT_MODE }, false);
     added.expect(rt, "memory for a directory");
 }
 
 #[test]
 fn a_layer_of_three_inodes_is_full(rt: HostRuntime) {
-    let made = Layer::within(rt.alloc(), DEFAULT_MODE, 3);
+    let made = Layer::within(rt.alloc(), Meta { mode: DEFAULT_MODE }, 3);
     let mut layer = made.expect(&rt, "memory for a layer");
     add_dir(&rt, &mut layer, "/a");
     add_dir(&rt, &mut layer, "/b");
@@ -101,7 +101,7 @@ fn apply_and_see<R: Abort>(rt: &R, layer: &mut Layer, op: Op, wanted: Result<(),
 
 #[test]
 fn the_last_file_number_is_given(rt: HostRuntime) {
-    let last = Layer::empty_from(rt.alloc(), DEFAULT_MODE, 4_294_967_294);
+    let last = Layer::empty_from(rt.alloc(), Meta { mode: DEFAULT_MODE }, 4_294_967_294);
     let mut layer = last.expect(&rt, "memory for a layer");
     for (text, wanted) in [("/f", Ok(())), ("/g", Err(FsError::LayerFull))] {
         let (path, mode) = (path(&rt, rt.alloc(), text), 420);
@@ -120,6 +120,6 @@ fn a_directory_in_place_of_a_whiteout_is_opaque(rt: HostRuntime) {
         .expect(&rt, "memory for a whiteout");
     let path = path(&rt, alloc, "/d");
     apply_and_see(&rt, &mut layer, Op::Mkdir { path, mode }, Ok(()));
-    let opaque = true;
-    equal(&rt, layer.at(&place), Some(Node::Dir { mode, opaque }));
+    let (meta, opaque) = (Meta { mode }, true);
+    equal(&rt, layer.at(&place), Some(Node::Dir { meta, opaque }));
 }

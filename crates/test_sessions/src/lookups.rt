@@ -2,7 +2,7 @@
 use crate::refused::Refused;
 use crate::round::Round;
 use snap_book::Held;
-use snap_layer::{Bytes, Content};
+use snap_layer::{Bytes, Content, Meta};
 use snap_merge::{FsError, Seen, Stack};
 use snap_path::Path;
 use snap_record::Sequence;
@@ -15,14 +15,14 @@ use std::sync::Wait;
 const HEAD_BYTES: usize = 16;
 
 // A file that is seen, with its own digest.
-fn shown(mode: u32, content: &Content) -> Result<Shown, AllocError> {
+fn shown(meta: Meta, content: &Content) -> Result<Shown, AllocError> {
     Ok(match content {
         Content::Bytes(_) => Shown::File {
-            mode,
+            mode: meta.mode,
             size: content.size(),
         },
         Content::Sized { size, digest } => Shown::Sized {
-            mode,
+            mode: meta.mode,
             size: *size,
             digest: digest.clone()?,
         },
@@ -75,8 +75,8 @@ fn looked_up(
 ) -> Result<Answer, Refused> {
     match lookup {
         Lookup::Look => match stack.look(path) {
-            Some(Seen::Dir { mode }) => Ok(Answer::Seen(Some(Shown::Dir { mode }))),
-            Some(Seen::File { mode, content }) => Ok(Answer::Seen(Some(shown(mode, content)?))),
+            Some(Seen::Dir { meta }) => Ok(Answer::Seen(Some(Shown::Dir { mode: meta.mode }))),
+            Some(Seen::File { meta, content }) => Ok(Answer::Seen(Some(shown(meta, content)?))),
             Some(Seen::Symlink { target }) => {
                 let target = Bytes::copy_of(alloc, target)?;
                 Ok(Answer::Seen(Some(Shown::Symlink { target })))

@@ -1,5 +1,5 @@
 // Lists of lookups and operations, which are carried out on layers.
-use snap_layer::{Bytes, Layer, Shared};
+use snap_layer::{Bytes, Layer, Meta, Shared};
 use snap_merge::{Seen, Stack};
 use snap_path::Path;
 use snap_path::limits::DEFAULT_MODE;
@@ -12,6 +12,9 @@ use std::io::{BufRead, BufReader};
 const FILE_MODE: u32 = 0o644;
 
 const OWN_MODE: u32 = 0o600;
+
+/// What the root of each layer has.
+const ROOT_META: Meta = Meta { mode: DEFAULT_MODE };
 
 /// The layers, and the lists of what is to be done with them.
 #[derive(Drop)]
@@ -80,7 +83,7 @@ impl Lists {
     fn set_uppers(&mut self, count: u64) -> Result<(), AllocError> {
         self.uppers.clear();
         for _ in 0..count {
-            self.uppers.push(Layer::empty(self.alloc, DEFAULT_MODE)?)?;
+            self.uppers.push(Layer::empty(self.alloc, ROOT_META)?)?;
         }
         Ok(())
     }
@@ -92,7 +95,7 @@ impl Lists {
                 Err((no_memory, _)) => return Err(no_memory.into()),
             }
         }
-        self.uppers.push(Layer::empty(self.alloc, DEFAULT_MODE)?)?;
+        self.uppers.push(Layer::empty(self.alloc, ROOT_META)?)?;
         Ok(())
     }
 

@@ -5,7 +5,7 @@ ghost use Rattle.snap_layer.specs.Layers.{is_target};
 
 use super::edit::{Answer, Edit, Kind};
 use super::plain::Standing;
-use snap_layer::{Body, Bytes, Content, Layer, LayerError, Node};
+use snap_layer::{Body, Bytes, Content, Layer, LayerError, Meta, Node};
 use snap_path::Path;
 use snap_path::limits::{MAX_FILE_BYTES, MAX_MODE, MAX_TARGET_BYTES};
 
@@ -17,7 +17,7 @@ pub(crate) fn edit_layer(layer: &mut Layer, edit: &Edit) -> Result<Answer, Layer
             if mode > MAX_MODE || !layer.has_room(path) {
                 return Ok(Answer::Refused);
             }
-            layer.add_dir(path, mode, edit.mark)?;
+            layer.add_dir(path, Meta { mode }, edit.mark)?;
         }
         Kind::AddWhiteout => {
             if !layer.has_place(path) {
@@ -81,13 +81,14 @@ fn edit_body(layer: &mut Layer, edit: &Edit) -> Result<Answer, LayerError> {
     if mode > MAX_MODE || !is_short(edit.bytes) {
         return Ok(Answer::Refused);
     }
+    let meta = Meta { mode };
     match edit.kind {
         Kind::AddFile if layer.has_place(path) => {
-            Ok(Answer::Numbered(layer.add_file(path, mode, Content::Bytes(bytes))?))
+            Ok(Answer::Numbered(layer.add_file(path, meta, Content::Bytes(bytes))?))
         }
         Kind::AddLinked if layer.has_rooms(path, to) => {
             let content = Content::Bytes(bytes);
-            layer.add_linked(path, to, Body::File { mode, content })?;
+            layer.add_linked(path, to, Body::File { meta, content })?;
             Ok(Answer::Made)
         }
         Kind::SetBytes if matches!(layer.body(edit.number), Some(Body::File { .. })) => {

@@ -2,7 +2,7 @@
 use super::edit::{Answer, Edit, Kind};
 use super::on_layer::{is_short, is_target};
 use super::plain::Plain;
-use snap_layer::{Body, Bytes, Content, LayerError, Node};
+use snap_layer::{Body, Bytes, Content, LayerError, Meta, Node};
 use snap_path::Path;
 use snap_path::limits::MAX_MODE;
 use std::alloc::{AllocError, Global};
@@ -51,8 +51,8 @@ impl Plain {
         match edit.kind {
             Kind::AddDir => {
                 self.check_inodes(path, true)?;
-                let (mode, opaque) = (edit.mode, edit.mark);
-                self.replace(path, Node::Dir { mode, opaque })?;
+                let (meta, opaque) = (Meta { mode: edit.mode }, edit.mark);
+                self.replace(path, Node::Dir { meta, opaque })?;
             }
             Kind::AddWhiteout => {
                 self.check_inodes(path, true)?;
@@ -114,16 +114,19 @@ impl Plain {
         if let Some(number) = self.number_at(edit.path) {
             return self.set_body(number, edit);
         }
-        let Some(Node::Dir { mode, opaque }) = self.entries.get(edit.path).copied() else {
+        let Some(Node::Dir { meta, opaque }) = self.entries.get(edit.path).copied() else {
             return Ok(());
         };
         let node = match edit.kind {
             Kind::SetOpaque => Node::Dir {
-                mode,
+                meta,
                 opaque: edit.mark,
             },
             _ => Node::Dir {
-                mode: edit.mode,
+                meta: Meta {
+                    mode: edit.mode,
+                    ..meta
+                },
                 opaque,
             },
         };
@@ -133,16 +136,19 @@ impl Plain {
 
     /// Gives a file its mode, or other bytes. The number is a file's, by the condition.
     fn set_body(&mut self, number: u32, edit: &Edit) -> Result<(), AllocError> {
-        let Some(Body::File { mode, content }) = self.bodies.remove(&number) else {
+        let Some(Body::File { meta, content }) = self.bodies.remove(&number) else {
             return Ok(());
         };
         let body = match edit.kind {
             Kind::SetBytes => Body::File {
-                mode,
+                meta,
                 content: Content::Bytes(Bytes::copy_of(self.alloc, edit.bytes)?),
             },
             _ => Body::File {
-                mode: edit.mode,
+                meta: Meta {
+                    mode: edit.mode,
+                    ..meta
+                },
                 content,
             },
         };
@@ -165,12 +171,13 @@ impl Plain {
             return Err(LayerError::LayerFull);
         }
         self.check_inodes(path, true)?;
-        let (bytes, mode) = (Bytes::copy_of(self.alloc, edit.bytes)?, edit.mode);
+        let bytes = Bytes::copy_of(self.alloc, edit.bytes)?;
+        let meta = Meta { mode: edit.mode };
         let (node, body) = match edit.kind {
             Kind::AddSymlink => (Node::Symlink { number }, Body::Symlink { target: bytes }),
             _ => {
                 let content = Content::Bytes(bytes);
-                (Node::File { number }, Body::File { mode, content })
+                (Node::File { number }, Body::File { meta, content })
             }
         };
         self.bodies.insert(number, body)?;

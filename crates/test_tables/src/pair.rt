@@ -4,7 +4,7 @@ use super::on_layer::{between, edit_layer, standing};
 use super::paths::Paths;
 use super::plain::Plain;
 use rand_pcg::Pcg32;
-use snap_layer::{Layer, LayerError};
+use snap_layer::{Layer, LayerError, Meta};
 use snap_path::Path;
 use snap_path::limits::DEFAULT_LAYER_INODES;
 use std::alloc::{AllocError, Global};
@@ -45,6 +45,7 @@ impl Pair {
     /// Empty layers. Those of every fourth pair have few numbers for files left, and others may have few inodes.
     pub(crate) fn new(alloc: Global, random: &mut Pcg32) -> Result<Pair, AllocError> {
         let mode = below(random, 4096);
+        let meta = Meta { mode };
         let few = below(random, 100);
         let (first, most) = match below(random, 4) {
             0 => (u32::MAX - few, DEFAULT_LAYER_INODES),
@@ -52,13 +53,13 @@ impl Pair {
             _ => (1 + few, DEFAULT_LAYER_INODES),
         };
         let layer = if most == DEFAULT_LAYER_INODES {
-            Layer::empty_from(alloc, mode, first)?
+            Layer::empty_from(alloc, meta, first)?
         } else {
-            Layer::within(alloc, mode, most)?
+            Layer::within(alloc, meta, most)?
         };
         Ok(Pair {
             layer,
-            plain: Plain::empty_from(alloc, mode, first, most)?,
+            plain: Plain::empty_from(alloc, meta, first, most)?,
             first,
         })
     }

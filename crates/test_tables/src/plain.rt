@@ -1,5 +1,5 @@
 // A layer as two ordered maps: what is read of it.
-use snap_layer::{Body, Node};
+use snap_layer::{Body, Meta, Node};
 use snap_path::limits::MAX_PATH_BYTES;
 use snap_path::{Name, Path};
 use std::alloc::{AllocError, Global};
@@ -33,13 +33,13 @@ impl Plain {
     /// have.
     pub(crate) fn empty_from(
         alloc: Global,
-        mode: u32,
+        meta: Meta,
         first: u32,
         most: usize,
     ) -> Result<Plain, AllocError> {
         let mut entries = BTreeMap::new(alloc);
         let root = Node::Dir {
-            mode,
+            meta,
             opaque: false,
         };
         entries.insert(Path::root(alloc), root)?;

@@ -18,7 +18,7 @@ ghost use Rattle.snap_layer.specs.Rows.{name_cmp, items_in, own, targets_whiteou
 
 use super::super::inode::{Inode, Target};
 use super::super::node::Node;
-use super::super::rows::{FEW_FRAMES, MOST_FRAMES, Rows, show_items};
+use super::super::rows::{FEW_FRAMES, MOST_FRAMES, Rows};
 use super::super::walk::{stands, walk};
 use super::Table;
 use slab::Slab;
@@ -71,9 +71,10 @@ fn path_beside(path: &Path, names: usize, name: &Name) -> Result<Path, AllocErro
     }
 }
 
-/// The names of the entries.
+/// The names of the entries, which are in order.
 fn names_of(alloc: Global, entries: &BTreeMap<Name, Target>) -> Result<Vec<Name>, AllocError>
-    ensures { IfOk result (λ names. names.items ≡ keys_of entries.now.entries) }
+    ensures names { IfOk result (λ names. names.items ≡ keys_of entries.now.entries) }
+    ensures order { IsStrictlySortedBy name_cmp (keys_of entries.now.entries) }
 {
     let mut names = Vec::new(alloc);
     for name in entries.keys() {
@@ -82,13 +83,15 @@ fn names_of(alloc: Global, entries: &BTreeMap<Name, Target>) -> Result<Vec<Name>
     Ok(names)
 }
 
-/// The names of the items.
+/// The names of the items, which are in order.
+#[tactic(auto, using(crate::proofs::Inside::no_names))]
 pub(crate) fn names_in(
     alloc: Global,
     slots: &Slab<Inode>,
     target: Target,
 ) -> Result<Vec<Name>, AllocError>
-    ensures { IfOk result (λ names. names.items ≡ keys_of (items_in slots.now target)) }
+    ensures names { IfOk result (λ names. names.items ≡ keys_of (items_in slots.now target)) }
+    ensures order { IsStrictlySortedBy name_cmp (keys_of (items_in slots.now target)) }
 {
     let Target::Inode(key) = target else {
         return Ok(Vec::new(alloc));
@@ -100,9 +103,11 @@ pub(crate) fn names_in(
     }
 }
 
-/// Whether each item is a whiteout.
+/// Whether each item is a whiteout. The items are in order.
+#[tactic(auto, using(crate::proofs::Inside::no_names))]
 fn are_whiteouts(slots: &Slab<Inode>, target: Target) -> bool
-    ensures { result ≡ list_all targets_whiteout (values_of (items_in slots.now target)) }
+    ensures all { result ≡ list_all targets_whiteout (values_of (items_in slots.now target)) }
+    ensures order { IsStrictlySortedBy name_cmp (keys_of (items_in slots.now target)) }
 {
     let Target::Inode(key) = target else {
         return true;
@@ -394,10 +399,7 @@ impl Table {
         ensures { IfOk result (λ names. names.items ≡ names_below path.now self.now.entries) }
     {
         match walk(&self.slots, self.root, path.names()) {
-            Some(target) => {
-                show_items(&self.slots, target);
-                names_in(self.alloc, &self.slots, target)
-            }
+            Some(target) => names_in(self.alloc, &self.slots, target),
             None => Ok(Vec::new(self.alloc)),
         }
     }
@@ -409,10 +411,7 @@ impl Table {
         ensures { IsTrue result ↔ ((n : List ℕ) → IsFree (at self.now (path.now ++ n ∷ []))) }
     {
         match walk(&self.slots, self.root, path.names()) {
-            Some(target) => {
-                show_items(&self.slots, target);
-                are_whiteouts(&self.slots, target)
-            }
+            Some(target) => are_whiteouts(&self.slots, target),
             None => true,
         }
     }

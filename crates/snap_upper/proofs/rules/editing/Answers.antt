@@ -10,7 +10,7 @@ returns-in-Some-clause-ok c =
 
 pub returns-clause-ok : goal.returns-clause-ok
 returns-clause-ok c =
-    lower_edit c.args.layer.now c.args.lowers.now c.args.path.now c.args.edit c.requires.layer c.requires.layers c.requires.there.0 c.requires.there.1 c.requires.there.2 c.requires.short c.requires.way (sym c.own_number.ensures ∙ c.in_default.is) c.in-Some-File.mode c.in-Some-File.content.now (sym c.below.ensures ∙ search rules)
+    lower_edit c.args.layer.now c.args.lowers.now c.args.path.now c.args.edit c.requires.layer c.requires.layers c.requires.there.0 c.requires.there.1 c.requires.there.2 c.requires.short c.requires.way (sym c.own_number.ensures ∙ c.in_default.is) c.in-Some-File.meta c.in-Some-File.content.now (sym c.below.ensures ∙ search rules)
 
 pub returns-in-Some-clause-in_place : goal.returns-in-Some-clause-in_place
 returns-in-Some-clause-in_place c = λ none. subst (λ (o : Option ℕ). IsNoGrowth c.args.layer.now o (edited c.args.edit)) (sym c.own_number.ensures ∙ c.in-Some.is) none

@@ -18,6 +18,6 @@ returns c =
     let all : keys_of (items_from s (Some (Inode c.self.inside.key))) ≡ names_below p u.entries =
     names_are s c.self.inside.root c.self.invariant.0.there u
     (λ q. sym (stood s c.self.inside.root c.self.inside.key c.self.inside.tree c.self.inside.path u c.self.invariant.2 c.args.self.now c.self.view_is q))
-    p (Some (Inode c.self.inside.key)) c.self.inside.path.1.0 layer.sorted_paths c.show_items.ensures
+    p (Some (Inode c.self.inside.key)) c.self.inside.path.1.0 layer.sorted_paths c.names_in.ensures.order
     in
-    subst (λ ns. IfOk c.names_in.result (λ names. names.items ≡ ns)) (all ∙ ap (λ (d : Directory). names_below d.path d.layer.entries) c.self.view_is) c.names_in.ensures
+    subst (λ ns. IfOk c.names_in.result (λ names. names.items ≡ ns)) (all ∙ ap (λ (d : Directory). names_below d.path d.layer.entries) c.self.view_is) c.names_in.ensures.names

@@ -14,20 +14,20 @@ use Rattle.snap_layer.proofs.layer.Layer.add_dir.Goals as goal
 pub returns-in_err-room-clause-full : goal.returns-in_err-room-clause-full
 returns-in_err-room-clause-full c =
     let ok : IsLayer c.args.self.now = c.room_for.ensures.layer in
-    let costs = dir_costs c.args.self.now ok c.args.path.now c.room_for.ensures.path c.args.mode c.args.opaque c.requires.room c.requires.mode in
-    costs_full (c.args.self.now) (with_entry c.args.self.now c.args.path.now (Dir c.args.mode c.args.opaque)) c.args.path.now 0 1 1 costs c.from_residual.result c.in_err-room.field-0.0 c.from_residual.ensures.1 c.in_err-room.ensures.full
+    let costs = dir_costs c.args.self.now ok c.args.path.now c.room_for.ensures.path c.args.meta c.args.opaque c.requires.room c.requires.meta in
+    costs_full (c.args.self.now) (with_entry c.args.self.now c.args.path.now (Dir c.args.meta c.args.opaque)) c.args.path.now 0 1 1 costs c.from_residual.result c.in_err-room.field-0.0 c.from_residual.ensures.1 c.in_err-room.ensures.full
 
 pub put_dir-requires-clause-layer : goal.put_dir-requires-clause-layer
 put_dir-requires-clause-layer c =
     let ok : IsLayer c.args.self.now = c.room_for.ensures.layer in
-    let costs = dir_costs c.args.self.now ok c.args.path.now c.room_for.ensures.path c.args.mode c.args.opaque c.requires.room c.requires.mode in
-    subst (λ (u : Tree). IsLayer (with_entry u c.args.path.now (Dir c.args.mode c.args.opaque))) (sym c.self.view_is) (costs_layer (c.args.self.now) (with_entry c.args.self.now c.args.path.now (Dir c.args.mode c.args.opaque)) c.args.path.now 0 1 1 costs c.in_ok-room.ensures.fits)
+    let costs = dir_costs c.args.self.now ok c.args.path.now c.room_for.ensures.path c.args.meta c.args.opaque c.requires.room c.requires.meta in
+    subst (λ (u : Tree). IsLayer (with_entry u c.args.path.now (Dir c.args.meta c.args.opaque))) (sym c.self.view_is) (costs_layer (c.args.self.now) (with_entry c.args.self.now c.args.path.now (Dir c.args.meta c.args.opaque)) c.args.path.now 0 1 1 costs c.in_ok-room.ensures.fits)
 
 pub returns-in_err-put_dir-clause-full : goal.returns-in_err-put_dir-clause-full
 returns-in_err-put_dir-clause-full c =
     let ok : IsLayer c.args.self.now = c.room_for.ensures.layer in
-    let costs = dir_costs c.args.self.now ok c.args.path.now c.room_for.ensures.path c.args.mode c.args.opaque c.requires.room c.requires.mode in
-    costs_memory (c.args.self.now) (with_entry c.args.self.now c.args.path.now (Dir c.args.mode c.args.opaque)) c.args.path.now 0 1 1 costs c.in_ok-room.ensures.fits c.from_residual-in_err-put_dir.result c.from_residual-in_err-put_dir.ensures.1
+    let costs = dir_costs c.args.self.now ok c.args.path.now c.room_for.ensures.path c.args.meta c.args.opaque c.requires.room c.requires.meta in
+    costs_memory (c.args.self.now) (with_entry c.args.self.now c.args.path.now (Dir c.args.meta c.args.opaque)) c.args.path.now 0 1 1 costs c.in_ok-room.ensures.fits c.from_residual-in_err-put_dir.result c.from_residual-in_err-put_dir.ensures.1
 
 pub returns-in_err-put_dir-clause-err : goal.returns-in_err-put_dir-clause-err
 returns-in_err-put_dir-clause-err c = on_err_by c.from_residual-in_err-put_dir.result (c.in_err-put_dir.ensures.err ∙ c.self.view_is)
@@ -35,18 +35,18 @@ returns-in_err-put_dir-clause-err c = on_err_by c.from_residual-in_err-put_dir.r
 pub invariant_of-self-2 : goal.invariant_of-self-2
 invariant_of-self-2 c =
     let ok : IsLayer c.args.self.now = c.room_for.ensures.layer in
-    let costs = dir_costs c.args.self.now ok c.args.path.now c.room_for.ensures.path c.args.mode c.args.opaque c.requires.room c.requires.mode in
-    let is : c.put_dir.new.self ≡ with_entry c.args.self.now c.args.path.now (Dir c.args.mode c.args.opaque) = c.in_ok-put_dir.ensures.ok ∙ ap (λ (u : Tree). with_entry u c.args.path.now (Dir c.args.mode c.args.opaque)) c.self.view_is in
-    subst (IsCounted _) (sym is) (costs_counted (c.args.self.now) (with_entry c.args.self.now c.args.path.now (Dir c.args.mode c.args.opaque)) c.args.path.now 0 1 1 costs c.in_ok-room.ensures.fits _ _ c.in_ok-room.ensures.room refl refl (omega (arith, path_count-with_node c.args.self.now c.args.path.now (Dir c.args.mode c.args.opaque) ok.sorted_paths, ap path_count (with_node-free c.args.self.now ok c.args.path.now (Dir c.args.mode c.args.opaque) c.requires.room.free), c.in_ok-room.ensures.room.paths)))
+    let costs = dir_costs c.args.self.now ok c.args.path.now c.room_for.ensures.path c.args.meta c.args.opaque c.requires.room c.requires.meta in
+    let is : c.put_dir.new.self ≡ with_entry c.args.self.now c.args.path.now (Dir c.args.meta c.args.opaque) = c.in_ok-put_dir.ensures.ok ∙ ap (λ (u : Tree). with_entry u c.args.path.now (Dir c.args.meta c.args.opaque)) c.self.view_is in
+    subst (IsCounted _) (sym is) (costs_counted (c.args.self.now) (with_entry c.args.self.now c.args.path.now (Dir c.args.meta c.args.opaque)) c.args.path.now 0 1 1 costs c.in_ok-room.ensures.fits _ _ c.in_ok-room.ensures.room refl refl (omega (arith, path_count-with_node c.args.self.now c.args.path.now (Dir c.args.meta c.args.opaque) ok.sorted_paths, ap path_count (with_node-free c.args.self.now ok c.args.path.now (Dir c.args.meta c.args.opaque) c.requires.room.free), c.in_ok-room.ensures.room.paths)))
 
 pub returns-clause-ok : goal.returns-clause-ok
-returns-clause-ok c = c.in_ok-put_dir.ensures.ok ∙ ap (λ (u : Tree). with_entry u c.args.path.now (Dir c.args.mode c.args.opaque)) c.self.view_is
+returns-clause-ok c = c.in_ok-put_dir.ensures.ok ∙ ap (λ (u : Tree). with_entry u c.args.path.now (Dir c.args.meta c.args.opaque)) c.self.view_is
 
 pub returns-clause-full : goal.returns-clause-full
 returns-clause-full c =
     let ok : IsLayer c.args.self.now = c.room_for.ensures.layer in
-    let costs = dir_costs c.args.self.now ok c.args.path.now c.room_for.ensures.path c.args.mode c.args.opaque c.requires.room c.requires.mode in
-    costs_done (c.args.self.now) (with_entry c.args.self.now c.args.path.now (Dir c.args.mode c.args.opaque)) c.args.path.now 0 1 1 costs c.in_ok-room.ensures.fits _
+    let costs = dir_costs c.args.self.now ok c.args.path.now c.room_for.ensures.path c.args.meta c.args.opaque c.requires.room c.requires.meta in
+    costs_done (c.args.self.now) (with_entry c.args.self.now c.args.path.now (Dir c.args.meta c.args.opaque)) c.args.path.now 0 1 1 costs c.in_ok-room.ensures.fits _
 
 pub room_for-requires-clause-clear : goal.room_for-requires-clause-clear
 room_for-requires-clause-clear c = (HasPlace-from_room c.args.self.now c.args.path.now (subst IsLayer c.self.view_is c.self.invariant.1) c.requires.room).clear
@@ -54,6 +54,6 @@ room_for-requires-clause-clear c = (HasPlace-from_room c.args.self.now c.args.pa
 pub returns-clause-layer : goal.returns-clause-layer
 returns-clause-layer c =
     let ok : IsLayer c.args.self.now = c.room_for.ensures.layer in
-    let costs = dir_costs c.args.self.now ok c.args.path.now c.room_for.ensures.path c.args.mode c.args.opaque c.requires.room c.requires.mode in
-    let is : c.put_dir.new.self ≡ with_entry c.args.self.now c.args.path.now (Dir c.args.mode c.args.opaque) = c.in_ok-put_dir.ensures.ok ∙ ap (λ (u : Tree). with_entry u c.args.path.now (Dir c.args.mode c.args.opaque)) c.self.view_is in
-    subst IsLayer (sym is) (costs_layer (c.args.self.now) (with_entry c.args.self.now c.args.path.now (Dir c.args.mode c.args.opaque)) c.args.path.now 0 1 1 costs c.in_ok-room.ensures.fits)
+    let costs = dir_costs c.args.self.now ok c.args.path.now c.room_for.ensures.path c.args.meta c.args.opaque c.requires.room c.requires.meta in
+    let is : c.put_dir.new.self ≡ with_entry c.args.self.now c.args.path.now (Dir c.args.meta c.args.opaque) = c.in_ok-put_dir.ensures.ok ∙ ap (λ (u : Tree). with_entry u c.args.path.now (Dir c.args.meta c.args.opaque)) c.self.view_is in
+    subst IsLayer (sym is) (costs_layer (c.args.self.now) (with_entry c.args.self.now c.args.path.now (Dir c.args.meta c.args.opaque)) c.args.path.now 0 1 1 costs c.in_ok-room.ensures.fits)

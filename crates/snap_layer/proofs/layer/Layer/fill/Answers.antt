@@ -16,8 +16,8 @@ overflow_sub-blocks c =
     let had : Counts c.self.inside.totals c.args.self.now = subst (Counts c.self.inside.totals) c.self.view_is c.self.invariant.0 in
     let old = c.requires.there.0 in
     let blocks = c.requires.there.1 in
-    let is : body c.args.self.now c.args.number ≡ Some (body_kinds.File c.args.mode old) = c.requires.there.2 in
-    let few = body_few c.args.self.now ok c.args.number (body_kinds.File c.args.mode old) is in
+    let is : body c.args.self.now c.args.number ≡ Some (body_kinds.File c.args.meta old) = c.requires.there.2 in
+    let few = body_few c.args.self.now ok c.args.number (body_kinds.File c.args.meta old) is in
     omega (arith, had.blocks, blocks, few)
 
 pub overflow_add-blocks : goal.overflow_add-blocks
@@ -26,18 +26,18 @@ overflow_add-blocks c =
     let had : Counts c.self.inside.totals c.args.self.now = subst (Counts c.self.inside.totals) c.self.view_is c.self.invariant.0 in
     let old = c.requires.there.0 in
     let blocks = c.requires.there.1 in
-    let is : body c.args.self.now c.args.number ≡ Some (body_kinds.File c.args.mode old) = c.requires.there.2 in
-    let few = body_few c.args.self.now ok c.args.number (body_kinds.File c.args.mode old) is in
+    let is : body c.args.self.now c.args.number ≡ Some (body_kinds.File c.args.meta old) = c.requires.there.2 in
+    let few = body_few c.args.self.now ok c.args.number (body_kinds.File c.args.meta old) is in
     omega (arith, had.blocks, blocks, few, few_blocks c.args.self.now ok, c.blocks-2.ensures, content_blocks c.args.content c.requires.content)
 
 pub set_body-requires-clause-layer : goal.set_body-requires-clause-layer
 set_body-requires-clause-layer c =
     let ok : IsLayer c.args.self.now = subst IsLayer c.self.view_is c.self.invariant.1 in
     let old = c.requires.there.0 in
-    let is : body c.args.self.now c.args.number ≡ Some (body_kinds.File c.args.mode old) = c.requires.there.2 in
-    let file : IsFile (body c.args.self.now c.args.number) = file_there c.args.self.now ok c.args.number c.args.mode old is in
-    let low : IsFile (Some (body_kinds.File c.args.mode old)) = subst IsFile is file in
-    subst (λ u. IsLayer (with_body u c.args.number (body_kinds.File c.args.mode c.args.content))) (sym c.self.view_is) (IsLayer-with_body c.args.self.now c.args.number (body_kinds.File c.args.mode c.args.content) ok file (low.0, c.requires.content))
+    let is : body c.args.self.now c.args.number ≡ Some (body_kinds.File c.args.meta old) = c.requires.there.2 in
+    let file : IsFile (body c.args.self.now c.args.number) = file_there c.args.self.now ok c.args.number c.args.meta old is in
+    let low : IsFile (Some (body_kinds.File c.args.meta old)) = subst IsFile is file in
+    subst (λ u. IsLayer (with_body u c.args.number (body_kinds.File c.args.meta c.args.content))) (sym c.self.view_is) (IsLayer-with_body c.args.self.now c.args.number (body_kinds.File c.args.meta c.args.content) ok file (low.0, c.requires.content))
 
 pub invariant_of-self : goal.invariant_of-self
 invariant_of-self c =
@@ -45,11 +45,11 @@ invariant_of-self c =
     let had : Counts c.self.inside.totals c.args.self.now = subst (Counts c.self.inside.totals) c.self.view_is c.self.invariant.0 in
     let old = c.requires.there.0 in
     let blocks = c.requires.there.1 in
-    let is : body c.args.self.now c.args.number ≡ Some (body_kinds.File c.args.mode old) = c.requires.there.2 in
-    let file : IsFile (body c.args.self.now c.args.number) = file_there c.args.self.now ok c.args.number c.args.mode old is in
-    let low : IsFile (Some (body_kinds.File c.args.mode old)) = subst IsFile is file in
-    let few = body_few c.args.self.now ok c.args.number (body_kinds.File c.args.mode old) is in
-    subst (IsCounted _) (ap (λ u. with_body u c.args.number (body_kinds.File c.args.mode c.args.content)) (sym c.self.view_is) ∙ sym c.set_body.ensures) (counts_body c.args.self.now ok c.args.number (body_kinds.File c.args.mode old) (body_kinds.File c.args.mode c.args.content) c.self.inside.totals _ is had refl refl (omega (arith, had.blocks, blocks, few, c.blocks-2.ensures)), IsLayer-with_body c.args.self.now c.args.number (body_kinds.File c.args.mode c.args.content) ok file (low.0, c.requires.content))
+    let is : body c.args.self.now c.args.number ≡ Some (body_kinds.File c.args.meta old) = c.requires.there.2 in
+    let file : IsFile (body c.args.self.now c.args.number) = file_there c.args.self.now ok c.args.number c.args.meta old is in
+    let low : IsFile (Some (body_kinds.File c.args.meta old)) = subst IsFile is file in
+    let few = body_few c.args.self.now ok c.args.number (body_kinds.File c.args.meta old) is in
+    subst (IsCounted _) (ap (λ u. with_body u c.args.number (body_kinds.File c.args.meta c.args.content)) (sym c.self.view_is) ∙ sym c.set_body.ensures) (counts_body c.args.self.now ok c.args.number (body_kinds.File c.args.meta old) (body_kinds.File c.args.meta c.args.content) c.self.inside.totals _ is had refl refl (omega (arith, had.blocks, blocks, few, c.blocks-2.ensures)), IsLayer-with_body c.args.self.now c.args.number (body_kinds.File c.args.meta c.args.content) ok file (low.0, c.requires.content))
 
 pub returns-clause-layer : goal.returns-clause-layer
 returns-clause-layer c =
@@ -57,8 +57,8 @@ returns-clause-layer c =
     let had : Counts c.self.inside.totals c.args.self.now = subst (Counts c.self.inside.totals) c.self.view_is c.self.invariant.0 in
     let old = c.requires.there.0 in
     let blocks = c.requires.there.1 in
-    let is : body c.args.self.now c.args.number ≡ Some (body_kinds.File c.args.mode old) = c.requires.there.2 in
-    let file : IsFile (body c.args.self.now c.args.number) = file_there c.args.self.now ok c.args.number c.args.mode old is in
-    let low : IsFile (Some (body_kinds.File c.args.mode old)) = subst IsFile is file in
-    let few = body_few c.args.self.now ok c.args.number (body_kinds.File c.args.mode old) is in
-    subst IsLayer (ap (λ u. with_body u c.args.number (body_kinds.File c.args.mode c.args.content)) (sym c.self.view_is) ∙ sym c.set_body.ensures) (IsLayer-with_body c.args.self.now c.args.number (body_kinds.File c.args.mode c.args.content) ok file (low.0, c.requires.content))
+    let is : body c.args.self.now c.args.number ≡ Some (body_kinds.File c.args.meta old) = c.requires.there.2 in
+    let file : IsFile (body c.args.self.now c.args.number) = file_there c.args.self.now ok c.args.number c.args.meta old is in
+    let low : IsFile (Some (body_kinds.File c.args.meta old)) = subst IsFile is file in
+    let few = body_few c.args.self.now ok c.args.number (body_kinds.File c.args.meta old) is in
+    subst IsLayer (ap (λ u. with_body u c.args.number (body_kinds.File c.args.meta c.args.content)) (sym c.self.view_is) ∙ sym c.set_body.ensures) (IsLayer-with_body c.args.self.now c.args.number (body_kinds.File c.args.meta c.args.content) ok file (low.0, c.requires.content))

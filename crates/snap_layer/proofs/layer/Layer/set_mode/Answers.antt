@@ -3,9 +3,9 @@ use Rattle.snap_layer.specs.declared.node.Node.{Node}
 use Rattle.snap_layer.specs.declared.node.Body.TheVariants as body_kinds
 use Rattle.snap_layer.specs.Tree.{body}
 use Rattle.snap_layer.specs.Layers.{IsLayer, IsFile}
-use Rattle.snap_layer.specs.Edits.{with_file_mode}
+use Rattle.snap_layer.specs.Edits.{body_with_mode, with_file_mode}
 use Rattle.snap_layer.specs.Totals.{Counts, IsCounted}
-use Rattle.snap_layer.proofs.Setting.{file_body, file_of_name}
+use Rattle.snap_layer.proofs.Setting.{file_body, file_of_name, file_with_mode}
 use Rattle.snap_layer.proofs.Totaling.{counts_body}
 use Rattle.snap_layer.proofs.Kept.{IsLayer-with_body}
 use Rattle.snap_layer.proofs.layer.Layer.set_mode.Goals as goal
@@ -24,9 +24,9 @@ invariant_of-self c =
     let file = file_of_name c.args.self.now ok c.args.path.now number (sym c.at.ensures.node ∙ c.in-Some-File.is ∙ ap (λ (n : Node). Some n) c.in-Some-File.field-0-is) in
     let b = file_body (body c.args.self.now number) file in
     let old = body_kinds.File b.0 b.1 in
-    let new = body_kinds.File c.args.mode b.1 in
+    let new = body_with_mode old c.args.mode in
     let is : body c.args.self.now number ≡ Some old = b.2 in
-    subst (IsCounted c.self.inside.totals) (ap (λ o. with_file_mode c.args.self.now number o c.args.mode) (sym is) ∙ ap (λ u. with_file_mode u number (body u number) c.args.mode) (sym c.self.view_is) ∙ sym c.set_file_mode.ensures) (counts_body c.args.self.now ok number old new c.self.inside.totals c.self.inside.totals is had refl refl refl, IsLayer-with_body c.args.self.now number new ok file (c.requires.mode, (subst IsFile is file).1))
+    subst (IsCounted c.self.inside.totals) (ap (λ o. with_file_mode c.args.self.now number o c.args.mode) (sym is) ∙ ap (λ u. with_file_mode u number (body u number) c.args.mode) (sym c.self.view_is) ∙ sym c.set_file_mode.ensures) (counts_body c.args.self.now ok number old new c.self.inside.totals c.self.inside.totals is had refl refl refl, IsLayer-with_body c.args.self.now number new ok file (file_with_mode old c.args.mode c.requires.mode (subst IsFile is file)))
 
 pub returns-in-Some-File-clause-layer : goal.returns-in-Some-File-clause-layer
 returns-in-Some-File-clause-layer c =
@@ -36,6 +36,6 @@ returns-in-Some-File-clause-layer c =
     let file = file_of_name c.args.self.now ok c.args.path.now number (sym c.at.ensures.node ∙ c.in-Some-File.is ∙ ap (λ (n : Node). Some n) c.in-Some-File.field-0-is) in
     let b = file_body (body c.args.self.now number) file in
     let old = body_kinds.File b.0 b.1 in
-    let new = body_kinds.File c.args.mode b.1 in
+    let new = body_with_mode old c.args.mode in
     let is : body c.args.self.now number ≡ Some old = b.2 in
-    subst IsLayer (ap (λ o. with_file_mode c.args.self.now number o c.args.mode) (sym is) ∙ ap (λ u. with_file_mode u number (body u number) c.args.mode) (sym c.self.view_is) ∙ sym c.set_file_mode.ensures) (IsLayer-with_body c.args.self.now number new ok file (c.requires.mode, (subst IsFile is file).1))
+    subst IsLayer (ap (λ o. with_file_mode c.args.self.now number o c.args.mode) (sym is) ∙ ap (λ u. with_file_mode u number (body u number) c.args.mode) (sym c.self.view_is) ∙ sym c.set_file_mode.ensures) (IsLayer-with_body c.args.self.now number new ok file (file_with_mode old c.args.mode c.requires.mode (subst IsFile is file)))

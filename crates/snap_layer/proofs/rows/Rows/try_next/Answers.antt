@@ -40,8 +40,8 @@ pub invariant_of-self-2 : goal.invariant_of-self-2
 invariant_of-self-2 g c = (
   subst (λ es. IsWalk c.self.inside.slots.now c.self.inside.root es c.self.inside.front.now c.enter.new.frames.items)
       (same_entries (node_contracts.the_row).coded c.self.inside.slots.now c.self.inside.root c.self.inside.tree c.self-2-1.given.0)
-      (step_walk c.self.inside.slots.now c.self.inside.root (map.entries c.self.inside.tree.0) c.self.inside.front.now c.self.inside.frames.items c.advance.new.frames.items c.in-Some.name.now c.in-Some.target c.self.invariant.0 c.in-Some.ensures.passes (c.in-Some.ensures.ahead c.self.inside.front.now) c.enter.new.frames.items (c.enter.ensures.items ∙ ap (λ (fs : Frames). fs ++ frame_of c.in-Some.target) c.reserve.ensures.items) c.in-Some-node_of_target.node c.in-Some-node_of_target.ensures c.show_items.ensures),
-  (step_text c.self.inside.slots.now c.self.inside.root (map.entries c.self.inside.tree.0) c.self.inside.front.now c.self.inside.frames.items c.advance.new.frames.items c.in-Some.name.now c.in-Some.target c.self.invariant.0 c.in-Some.ensures.passes (c.in-Some.ensures.ahead c.self.inside.front.now) c.enter.new.frames.items (c.enter.ensures.items ∙ ap (λ (fs : Frames). fs ++ frame_of c.in-Some.target) c.reserve.ensures.items) c.in-Some-node_of_target.node c.in-Some-node_of_target.ensures c.show_items.ensures c.advance.new.text c.in-Some.ensures.text).0,
+      (step_walk c.self.inside.slots.now c.self.inside.root (map.entries c.self.inside.tree.0) c.self.inside.front.now c.self.inside.frames.items c.advance.new.frames.items c.in-Some.name.now c.in-Some.target c.self.invariant.0 c.in-Some.ensures.passes (c.in-Some.ensures.ahead c.self.inside.front.now) c.enter.new.frames.items (c.enter.ensures.items ∙ ap (λ (fs : Frames). fs ++ frame_of c.in-Some.target) c.reserve.ensures.items) c.in-Some-node_of_target.node c.in-Some-node_of_target.ensures.node c.in-Some-node_of_target.ensures.order),
+  (step_text c.self.inside.slots.now c.self.inside.root (map.entries c.self.inside.tree.0) c.self.inside.front.now c.self.inside.frames.items c.advance.new.frames.items c.in-Some.name.now c.in-Some.target c.self.invariant.0 c.in-Some.ensures.passes (c.in-Some.ensures.ahead c.self.inside.front.now) c.enter.new.frames.items (c.enter.ensures.items ∙ ap (λ (fs : Frames). fs ++ frame_of c.in-Some.target) c.reserve.ensures.items) c.in-Some-node_of_target.node c.in-Some-node_of_target.ensures.node c.in-Some-node_of_target.ensures.order c.advance.new.text c.in-Some.ensures.text).0,
   omega (arith, c.self.invariant.2, c.in-Some.ensures.capacity, c.reserve.ensures.capacity, c.enter.ensures.capacity),
   c.enter.ensures.room,
 )
@@ -49,19 +49,19 @@ invariant_of-self-2 g c = (
 pub returns-clause-row : goal.returns-clause-row
 returns-clause-row g c =
     sym (ap (λ (s : Progress). s.rest) c.self.view_is)
-    ∙ step_row c.self.inside.slots.now c.self.inside.root (map.entries c.self.inside.tree.0) c.self.inside.front.now c.self.inside.frames.items c.advance.new.frames.items c.in-Some.name.now c.in-Some.target c.self.invariant.0 c.in-Some.ensures.passes (c.in-Some.ensures.ahead c.self.inside.front.now) c.enter.new.frames.items (c.enter.ensures.items ∙ ap (λ (fs : Frames). fs ++ frame_of c.in-Some.target) c.reserve.ensures.items) c.in-Some-node_of_target.node c.in-Some-node_of_target.ensures c.show_items.ensures
+    ∙ step_row c.self.inside.slots.now c.self.inside.root (map.entries c.self.inside.tree.0) c.self.inside.front.now c.self.inside.frames.items c.advance.new.frames.items c.in-Some.name.now c.in-Some.target c.self.invariant.0 c.in-Some.ensures.passes (c.in-Some.ensures.ahead c.self.inside.front.now) c.enter.new.frames.items (c.enter.ensures.items ∙ ap (λ (fs : Frames). fs ++ frame_of c.in-Some.target) c.reserve.ensures.items) c.in-Some-node_of_target.node c.in-Some-node_of_target.ensures.node c.in-Some-node_of_target.ensures.order
     ∙ ap (λ es. (last_path c.self.inside.front.now c.enter.new.frames.items, c.in-Some-node_of_target.node) ∷ spread es (ahead c.self.inside.slots.now c.self.inside.front.now c.enter.new.frames.items)) (same_entries (node_contracts.the_row).coded c.self.inside.slots.now c.self.inside.root c.self.inside.tree c.self-2-1.given.0)
 
 pub returns-clause-path : goal.returns-clause-path
 returns-clause-path g c =
-    step_path c.self.inside.slots.now c.self.inside.root (map.entries c.self.inside.tree.0) c.self.inside.front.now c.self.inside.frames.items c.advance.new.frames.items c.in-Some.name.now c.in-Some.target c.self.invariant.0 c.in-Some.ensures.passes (c.in-Some.ensures.ahead c.self.inside.front.now) c.enter.new.frames.items (c.enter.ensures.items ∙ ap (λ (fs : Frames). fs ++ frame_of c.in-Some.target) c.reserve.ensures.items) c.in-Some-node_of_target.node c.in-Some-node_of_target.ensures c.show_items.ensures c.len.result (c.len.ensures.value ∙ ap (λ (fs : Frames). length fs) c.reserve.ensures.items)
+    step_path c.self.inside.slots.now c.self.inside.root (map.entries c.self.inside.tree.0) c.self.inside.front.now c.self.inside.frames.items c.advance.new.frames.items c.in-Some.name.now c.in-Some.target c.self.invariant.0 c.in-Some.ensures.passes (c.in-Some.ensures.ahead c.self.inside.front.now) c.enter.new.frames.items (c.enter.ensures.items ∙ ap (λ (fs : Frames). fs ++ frame_of c.in-Some.target) c.reserve.ensures.items) c.in-Some-node_of_target.node c.in-Some-node_of_target.ensures.node c.in-Some-node_of_target.ensures.order c.len.result (c.len.ensures.value ∙ ap (λ (fs : Frames). length fs) c.reserve.ensures.items)
     ∙ ap (λ (q : Names). take (length c.self.inside.front.now + (c.len.result - 1)) q ++ c.in-Some.name.now ∷ []) (ap (λ (s : Progress). s.path) c.self.view_is)
 
 pub returns-clause-above : goal.returns-clause-above
 returns-clause-above g c =
-    step_above c.self.inside.slots.now c.self.inside.root (map.entries c.self.inside.tree.0) c.self.inside.front.now c.self.inside.frames.items c.advance.new.frames.items c.in-Some.name.now c.in-Some.target c.self.invariant.0 c.in-Some.ensures.passes (c.in-Some.ensures.ahead c.self.inside.front.now) c.enter.new.frames.items (c.enter.ensures.items ∙ ap (λ (fs : Frames). fs ++ frame_of c.in-Some.target) c.reserve.ensures.items) c.in-Some-node_of_target.node c.in-Some-node_of_target.ensures c.show_items.ensures c.len.result (c.len.ensures.value ∙ ap (λ (fs : Frames). length fs) c.reserve.ensures.items)
+    step_above c.self.inside.slots.now c.self.inside.root (map.entries c.self.inside.tree.0) c.self.inside.front.now c.self.inside.frames.items c.advance.new.frames.items c.in-Some.name.now c.in-Some.target c.self.invariant.0 c.in-Some.ensures.passes (c.in-Some.ensures.ahead c.self.inside.front.now) c.enter.new.frames.items (c.enter.ensures.items ∙ ap (λ (fs : Frames). fs ++ frame_of c.in-Some.target) c.reserve.ensures.items) c.in-Some-node_of_target.node c.in-Some-node_of_target.ensures.node c.in-Some-node_of_target.ensures.order c.len.result (c.len.ensures.value ∙ ap (λ (fs : Frames). length fs) c.reserve.ensures.items)
 
 pub returns-clause-text : goal.returns-clause-text
 returns-clause-text g c =
-    (step_text c.self.inside.slots.now c.self.inside.root (map.entries c.self.inside.tree.0) c.self.inside.front.now c.self.inside.frames.items c.advance.new.frames.items c.in-Some.name.now c.in-Some.target c.self.invariant.0 c.in-Some.ensures.passes (c.in-Some.ensures.ahead c.self.inside.front.now) c.enter.new.frames.items (c.enter.ensures.items ∙ ap (λ (fs : Frames). fs ++ frame_of c.in-Some.target) c.reserve.ensures.items) c.in-Some-node_of_target.node c.in-Some-node_of_target.ensures c.show_items.ensures c.advance.new.text c.in-Some.ensures.text).1
+    (step_text c.self.inside.slots.now c.self.inside.root (map.entries c.self.inside.tree.0) c.self.inside.front.now c.self.inside.frames.items c.advance.new.frames.items c.in-Some.name.now c.in-Some.target c.self.invariant.0 c.in-Some.ensures.passes (c.in-Some.ensures.ahead c.self.inside.front.now) c.enter.new.frames.items (c.enter.ensures.items ∙ ap (λ (fs : Frames). fs ++ frame_of c.in-Some.target) c.reserve.ensures.items) c.in-Some-node_of_target.node c.in-Some-node_of_target.ensures.node c.in-Some-node_of_target.ensures.order c.advance.new.text c.in-Some.ensures.text).1
     ∙ ap (λ (s : Progress). length (text_below s.front) + c.advance.new.text) c.self.view_is

@@ -12,8 +12,8 @@ returns-in-Some c =
     let layer : IsLayer c.args.self.now = subst IsLayer c.self.view_is c.self.invariant.layer in
     let is : walk (entry_at c.self.inside.slots) c.self.inside.root c.args.path.now ≡ Some c.in-Some.target = ap (walk (entry_at c.self.inside.slots) c.self.inside.root) (sym c.names.ensures.names) ∙ sym c.walk.ensures ∙ c.in-Some.is in
     subst (λ ns. IfOk c.names_in.result (λ names. names.items ≡ ns))
-    (names_are c.self.inside.slots c.self.inside.root m.table.there c.args.self.now m.shows c.args.path.now (Some c.in-Some.target) is layer.sorted_paths c.show_items.ensures)
-    c.names_in.ensures
+    (names_are c.self.inside.slots c.self.inside.root m.table.there c.args.self.now m.shows c.args.path.now (Some c.in-Some.target) is layer.sorted_paths c.names_in.ensures.order)
+    c.names_in.ensures.names
 
 pub returns-in-None : goal.returns-in-None
 returns-in-None c =

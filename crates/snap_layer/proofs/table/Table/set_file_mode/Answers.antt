@@ -12,7 +12,7 @@ use Rattle.snap_layer.specs.declared.node.Body.TheVariants as node_body
 use Rattle.snap_layer.specs.Layers.{IsFile}
 use Rattle.snap_layer.specs.Edits.{with_file_mode, body_with_mode}
 use Rattle.snap_layer.proofs.Kept.{IsLayer-with_body}
-use Rattle.snap_layer.proofs.Setting.{file_body}
+use Rattle.snap_layer.proofs.Setting.{file_body, file_with_mode}
 use Rattle.snap_layer.proofs.table.Table.set_file_mode.Goals as goal
 
 pub unreachable-requires : goal.unreachable-requires
@@ -41,7 +41,7 @@ invariant_of-self-inside c =
     let b = node_body.File had.0 had.1 in
     let was : IsFile (Some b) = subst IsFile is c.requires.file in
     let made : Makes (view_of c.set_mode.new.slots) c.self.inside.root c.self.inside.places.entries c.self.inside.next (with_body c.args.self.now c.args.number (body_with_mode b c.args.mode)) = mode_set_made (view_of c.self.inside.slots) (view_of c.set_mode.new.slots) c.self.inside.root c.self.inside.places.entries c.self.inside.next c.args.self.now m c.args.number c.in-Some.key c.args.mode b found is (c.set_mode.ensures b (body_found (view_of c.self.inside.slots) c.self.inside.root c.self.inside.places.entries c.self.inside.next c.args.self.now m c.args.number c.in-Some.key found ∙ is)) in
-    (makes_holds c.set_mode.new.slots c.self.inside.root c.self.inside.places.entries c.self.inside.next (with_body c.args.self.now c.args.number (body_with_mode b c.args.mode)) made (IsLayer-with_body c.args.self.now c.args.number (body_with_mode b c.args.mode) layer c.requires.file (c.requires.mode, was.1)), tt)
+    (makes_holds c.set_mode.new.slots c.self.inside.root c.self.inside.places.entries c.self.inside.next (with_body c.args.self.now c.args.number (body_with_mode b c.args.mode)) made (IsLayer-with_body c.args.self.now c.args.number (body_with_mode b c.args.mode) layer c.requires.file (file_with_mode b c.args.mode c.requires.mode was)), tt)
 
 pub invariant_of-self : goal.invariant_of-self
 invariant_of-self c =
@@ -53,7 +53,7 @@ invariant_of-self c =
     let b = node_body.File had.0 had.1 in
     let was : IsFile (Some b) = subst IsFile is c.requires.file in
     let made : Makes (view_of c.set_mode.new.slots) c.self.inside.root c.self.inside.places.entries c.self.inside.next (with_body c.args.self.now c.args.number (body_with_mode b c.args.mode)) = mode_set_made (view_of c.self.inside.slots) (view_of c.set_mode.new.slots) c.self.inside.root c.self.inside.places.entries c.self.inside.next c.args.self.now m c.args.number c.in-Some.key c.args.mode b found is (c.set_mode.ensures b (body_found (view_of c.self.inside.slots) c.self.inside.root c.self.inside.places.entries c.self.inside.next c.args.self.now m c.args.number c.in-Some.key found ∙ is)) in
-    makes_kept c.set_mode.new.slots c.self.inside.root c.self.inside.places.entries c.self.inside.next (with_body c.args.self.now c.args.number (body_with_mode b c.args.mode)) made (IsLayer-with_body c.args.self.now c.args.number (body_with_mode b c.args.mode) layer c.requires.file (c.requires.mode, was.1)) (most_same c.self.view_is) (node_contracts.the_row).coded c.self-1.given.0
+    makes_kept c.set_mode.new.slots c.self.inside.root c.self.inside.places.entries c.self.inside.next (with_body c.args.self.now c.args.number (body_with_mode b c.args.mode)) made (IsLayer-with_body c.args.self.now c.args.number (body_with_mode b c.args.mode) layer c.requires.file (file_with_mode b c.args.mode c.requires.mode was)) (most_same c.self.view_is) (node_contracts.the_row).coded c.self-1.given.0
 
 pub returns : goal.returns
 returns c =
@@ -65,4 +65,4 @@ returns c =
     let b = node_body.File had.0 had.1 in
     let was : IsFile (Some b) = subst IsFile is c.requires.file in
     let made : Makes (view_of c.set_mode.new.slots) c.self.inside.root c.self.inside.places.entries c.self.inside.next (with_body c.args.self.now c.args.number (body_with_mode b c.args.mode)) = mode_set_made (view_of c.self.inside.slots) (view_of c.set_mode.new.slots) c.self.inside.root c.self.inside.places.entries c.self.inside.next c.args.self.now m c.args.number c.in-Some.key c.args.mode b found is (c.set_mode.ensures b (body_found (view_of c.self.inside.slots) c.self.inside.root c.self.inside.places.entries c.self.inside.next c.args.self.now m c.args.number c.in-Some.key found ∙ is)) in
-    makes_view c.set_mode.new.slots c.self.inside.root c.self.inside.places.entries c.self.inside.next (with_body c.args.self.now c.args.number (body_with_mode b c.args.mode)) made (IsLayer-with_body c.args.self.now c.args.number (body_with_mode b c.args.mode) layer c.requires.file (c.requires.mode, was.1)) (most_same c.self.view_is) (node_contracts.the_row).coded c.self-1.given.0 ∙ ap (λ o. with_file_mode c.args.self.now c.args.number o c.args.mode) (sym is)
+    makes_view c.set_mode.new.slots c.self.inside.root c.self.inside.places.entries c.self.inside.next (with_body c.args.self.now c.args.number (body_with_mode b c.args.mode)) made (IsLayer-with_body c.args.self.now c.args.number (body_with_mode b c.args.mode) layer c.requires.file (file_with_mode b c.args.mode c.requires.mode was)) (most_same c.self.view_is) (node_contracts.the_row).coded c.self-1.given.0 ∙ ap (λ o. with_file_mode c.args.self.now c.args.number o c.args.mode) (sym is)
