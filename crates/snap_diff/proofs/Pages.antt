@@ -49,8 +49,8 @@ skip_names most a rows f each (n ∷ ns) =
 
 skip_inside : (most : ℕ) (a : Names) (rows : List Change) (o : Option Object) (cs : List Change) → put_rows most (Some a) rows cs ≡ rows → put_rows most (Some a) rows (if_directory o cs) ≡ rows
 skip_inside most a rows None cs e = refl
-skip_inside most a rows (Some (dir mode)) cs e = e
-skip_inside most a rows (Some (file mode content)) cs e = refl
+skip_inside most a rows (Some (dir meta)) cs e = e
+skip_inside most a rows (Some (file meta content)) cs e = refl
 skip_inside most a rows (Some (symlink target)) cs e = refl
 
 skip_below : (k : ℕ) (t : Tree) (ts : List Tree) (most : ℕ) (a : Names) (rows : List Change) (p : Names) → is_gt (path_cmp a p) ≡ true → begins p a ≡ false → (r : Names) → put_rows most (Some a) rows (changes_below k t ts (p ++ r)) ≡ rows

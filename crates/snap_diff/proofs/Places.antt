@@ -11,7 +11,8 @@ use Rattle.snap_layer.specs.Layers.{IsLayer}
 use Rattle.snap_layer.proofs.Dirs.{a_dir}
 use Rattle.snap_merge.proofs.Hiding.{hides_snoc}
 use Rattle.snap_diff.specs.Changes.{is_merged, is_untouched}
-use Rattle.snap_diff.specs.Places.{IsOwnPlace}
+use Rattle.snap_diff.specs.Places.{shown_over, IsOwnPlace}
+use Rattle.snap_merge.specs.Objects.{Object, seen, seen_over}
 use Rattle.snap_merge.specs.Row.{dir_at}
 
 pub root_own : (t : Tree) (x : Node) → at t [] ≡ Some x → is_dir x ≡ true → IsOwnPlace t [] (Some x) (Some (record { layer = t; path = [] })) false
@@ -39,7 +40,7 @@ found_in t ok p n = by (at t p) refl
 
     by : (o : Option Node) → at t p ≡ o → option_and_then (λ (d : Directory). entry d n) (option_and_then (dir_of t p) o) ≡ found t (p ++ n ∷ [])
     by None e = none None e (λ d. d)
-    by (Some (Dir mode opaque)) e = refl
+    by (Some (Dir meta opaque)) e = refl
     by (Some (File k)) e = none (Some (File k)) e (λ d. cc)
     by (Some (Symlink k)) e = none (Some (Symlink k)) e (λ d. cc)
     by (Some Whiteout) e = none (Some Whiteout) e (λ d. cc)
@@ -94,7 +95,15 @@ module _ (t : Tree) (p : Names) (node : Option Node) (dir : Option Directory) (h
     where
       by : (o : Option Node) → (not (is_some o) && not (hides t p)) ≡ false → (not (node_hides o) && not (hides t p)) ≡ true → option_and_then (dir_of t p) o ≡ Some (record { layer = t; path = p })
       by None e f = absurd (cc)
-      by (Some (Dir mode opaque)) e f = refl
+      by (Some (Dir meta opaque)) e f = refl
       by (Some (File k)) e f = absurd (cc)
       by (Some (Symlink k)) e f = absurd (cc)
       by (Some Whiteout) e f = absurd (cc)
+
+  -- what is seen there
+  pub shown_is : (ts : List Tree) (old : Option Object) → old ≡ seen ts p → (new : Option Object) → new ≡ shown_over t node hidden old → new ≡ seen (t ∷ ts) p
+  shown_is ts old was new is = is ∙ (λ i. shown_over t (own.node_is i) (own.hidden_is i) (was i)) ∙ by (at t p)
+    where
+      by : (o : Option Node) → shown_over t o (hides t p) (seen ts p) ≡ seen_over t o p (seen ts p)
+      by None = refl
+      by (Some x) = refl

@@ -32,7 +32,7 @@ get_rest [] r = refl
 get_rest (x ∷ p) r = get_rest p r
 
 -- a path that leads through the directory at another name, which comes later, comes after all at the first name
-past_name : (p r : Names) (m n : List ℕ) → name_cmp m n ≡ Greater → is_past (Some (p ++ m ∷ r)) (p ++ n ∷ []) ≡ true
+pub past_name : (p r : Names) (m n : List ℕ) → name_cmp m n ≡ Greater → is_past (Some (p ++ m ∷ r)) (p ++ n ∷ []) ≡ true
 past_name p r m n e = λ i. is_gt (order i) && not (apart (begins (p ++ n ∷ []) (p ++ m ∷ r)) refl i)
   where
     order : path_cmp (p ++ m ∷ r) (p ++ n ∷ []) ≡ Greater

@@ -57,11 +57,11 @@ no_listing s ok p e is = by (seen s p) refl
   where
     by : (o : Option Object) → seen s p ≡ o → names s p ≡ []
     by None o = no_names s ok p (ap is_shown_dir o)
-    by (Some (dir mode)) o =
+    by (Some (dir meta)) o =
         let walked : walk_error s p ≡ None = walk_to_seen s ok p (some_dir (seen s p) (ap is_shown_dir o)) in
         let fine : listing s p ≡ Ok (names s p) = (λ i. unless (walked i) (names_of s p (o i))) in
         absurd (cc)
-    by (Some (file mode content)) o = no_names s ok p (ap is_shown_dir o)
+    by (Some (file meta content)) o = no_names s ok p (ap is_shown_dir o)
     by (Some (symlink target)) o = no_names s ok p (ap is_shown_dir o)
 
 -- ---- where nothing changes
@@ -76,8 +76,8 @@ touched t ts p e = ap (λ b. cond b None (change_at (seen ts p) (seen (t ∷ ts)
 
 empty_inside : (o : Option Object) (cs : List Change) → cs ≡ [] → if_directory o cs ≡ []
 empty_inside None cs e = refl
-empty_inside (Some (dir mode)) cs e = e
-empty_inside (Some (file mode content)) cs e = refl
+empty_inside (Some (dir meta)) cs e = e
+empty_inside (Some (file meta content)) cs e = refl
 empty_inside (Some (symlink target)) cs e = refl
 
 all_empty : (f : List ℕ → List Change) (ns : Names) → ((n : List ℕ) → f n ≡ []) → flat_map f ns ≡ []
@@ -159,14 +159,14 @@ at_path (suc k) t ts p more =
 
 pub inside_dir : (o : Option Object) (cs : List Change) → is_shown_dir o ≡ true → if_directory o cs ≡ cs
 inside_dir None cs e = absurd (cc)
-inside_dir (Some (dir mode)) cs e = refl
-inside_dir (Some (file mode content)) cs e = absurd (cc)
+inside_dir (Some (dir meta)) cs e = refl
+inside_dir (Some (file meta content)) cs e = absurd (cc)
 inside_dir (Some (symlink target)) cs e = absurd (cc)
 
 pub inside_none : (o : Option Object) (cs : List Change) → is_shown_dir o ≡ false → if_directory o cs ≡ []
 inside_none None cs e = refl
-inside_none (Some (dir mode)) cs e = absurd (cc)
-inside_none (Some (file mode content)) cs e = refl
+inside_none (Some (dir meta)) cs e = absurd (cc)
+inside_none (Some (file meta content)) cs e = refl
 inside_none (Some (symlink target)) cs e = refl
 
 -- no name is told where none is left

@@ -1,5 +1,5 @@
 -- The way to the place where a page begins: nothing at its directories is told, and in each of them nothing at the names before the next one.
-use Rattle.std.proofs.Common.{◌≡◌, ℕ, zero, suc, ◌+◌, ◌-◌, ◌<◌, ◌≤◌, get_or, Bool, true, false, cond, List, [], ◌∷◌, ◌++◌, length, take, Option, Some, None, refl, sym, ap, subst, ◌∙◌, append-nil, add-one, arith}
+use Rattle.std.proofs.Common.{◌≡◌, ℕ, zero, suc, ◌+◌, ◌-◌, ◌<◌, get_or, Bool, true, false, cond, List, [], ◌∷◌, ◌++◌, length, take, Option, Some, None, refl, sym, ap, ◌∙◌, append-nil, add-one, arith}
 use Rattle.std.specs.Prelude.{◌&&◌, not, is_some}
 use Rattle.std.specs.Ordering.{is_lt}
 use Rattle.std.specs.List.{flat_map, slice_get}
@@ -43,17 +43,6 @@ some_at a j n less is = read a j less ∙ ap Some (sym is)
     read (x ∷ xs) zero l = refl
     read (x ∷ xs) (suc i) l = read xs i (omega arith)
 
-pub none_at : (a : Names) (j : ℕ) → length a ≤ j → slice_get a j ≡ None
-none_at [] j far = refl
-none_at (x ∷ a) zero far = absurd (omega arith)
-none_at (x ∷ a) (suc j) far = none_at a j (omega arith)
-
-pub all_front : (a : Names) (j : ℕ) → slice_get a j ≡ None → take j a ≡ a
-all_front [] zero e = refl
-all_front [] (suc j) e = refl
-all_front (x ∷ a) zero e = absurd (cc)
-all_front (x ∷ a) (suc j) e = ap (λ (r : Names). x ∷ r) (all_front a j e)
-
 module _ (a : Names) (j : ℕ) (n : List ℕ) (is : slice_get a j ≡ Some n) where
   parts : (r : Names) × (a ≡ take j a ++ n ∷ r)
   parts = split_at a j n is
@@ -81,7 +70,7 @@ shown_dir t ts p touched merged = by (at t p) refl touched merged
   where
     by : (o : Option Node) → at t p ≡ o → (not (is_some o) && not (hides t p)) ≡ false → (not (node_hides o) && not (hides t p)) ≡ true → is_shown_dir (seen (t ∷ ts) p) ≡ true
     by None e f g = absurd (cc)
-    by (Some (Dir mode opaque)) e f g = ap is_shown_dir (seen_node t ts p (Dir mode opaque) e)
+    by (Some (Dir meta opaque)) e f g = ap is_shown_dir (seen_node t ts p (Dir meta opaque) e)
     by (Some (File k)) e f g = absurd (cc)
     by (Some (Symlink k)) e f g = absurd (cc)
     by (Some Whiteout) e f g = absurd (cc)
@@ -107,18 +96,14 @@ module _ (k : ℕ) (t : Tree) (ts : List Tree) (ok : AreLayers (t ∷ ts)) (most
       ∙ ap (λ b. put_rows most (Some a) rows (flat_map each (names_from b (directory_names dir)))) (place_at a j n is)
 
   -- what is at the next name, and then at those after it
-  from_next : (first : List ℕ) (later : List Change) → first ≡ n → names_from (Included n) (directory_names dir) ≡ first ∷ names_from (Excluded first) (directory_names dir) → later ≡ put_rows most (Some a) rows (changes_below (k - 1) t ts (take (j + 1) a))
+  pub way_next : (first : List ℕ) (later : List Change) → first ≡ n → names_from (Included n) (directory_names dir) ≡ first ∷ names_from (Excluded first) (directory_names dir) → later ≡ put_rows most (Some a) rows (changes_below (k - 1) t ts (take (j + 1) a))
       → put_rows most (Some a) later (flat_map each (names_from (Excluded first) (directory_names dir))) ≡ put_rows most (Some a) rows (changes_below k t ts p)
-  from_next first later same names made =
+  way_next first later same names made =
       let rest : List Change = flat_map each (names_from (Excluded first) (directory_names dir)) in
       ap (λ (rs : List Change). put_rows most (Some a) rs rest) (made ∙ ap (λ (q : Names). put_rows most (Some a) rows (changes_below (k - 1) t ts q)) (next_front a j n is ∙ ap (λ (m : List ℕ). take j a ++ m ∷ []) (sym same)))
       ∙ sym (put_rows-append most (Some a) rows (each first) rest)
       ∙ ap (λ (ns : Names). put_rows most (Some a) rows (flat_map each ns)) (sym names)
       ∙ sym from_place
 
-  pub way_rest : (after : Option Names) → after ≡ Some a → put_rows most after rows (flat_map each (names_from (Included n) (directory_names dir))) ≡ put_rows most after rows (changes_below k t ts p)
-  way_rest after begun = subst (λ (o : Option Names). put_rows most o rows (flat_map each (names_from (Included n) (directory_names dir))) ≡ put_rows most o rows (changes_below k t ts p)) (sym begun) (sym from_place)
-
-  pub way_next : (after : Option Names) → after ≡ Some a → (first : List ℕ) (later : List Change) → first ≡ n → names_from (Included n) (directory_names dir) ≡ first ∷ names_from (Excluded first) (directory_names dir) → later ≡ put_rows most after rows (changes_below (k - 1) t ts (take (j + 1) a))
-      → put_rows most after later (flat_map each (names_from (Excluded first) (directory_names dir))) ≡ put_rows most after rows (changes_below k t ts p)
-  way_next after begun first later same names made = subst (λ (o : Option Names). put_rows most o later (flat_map each (names_from (Excluded first) (directory_names dir))) ≡ put_rows most o rows (changes_below k t ts p)) (sym begun) (from_next first later same names (made ∙ ap (λ (o : Option Names). put_rows most o rows (changes_below (k - 1) t ts (take (j + 1) a))) begun))
+  pub way_rest : put_rows most (Some a) rows (flat_map each (names_from (Included n) (directory_names dir))) ≡ put_rows most (Some a) rows (changes_below k t ts p)
+  way_rest = sym from_place

@@ -6,6 +6,7 @@ use Rattle.std.specs.declared.ops.Bound.TheVariants.{Included, Unbounded}
 use Rattle.std.specs.Ordering.{is_gt, is_lt}
 use Rattle.std.specs.Str.{bytes_eq}
 use Rattle.snap_path.specs.Text.{Names, begins}
+use Rattle.snap_layer.specs.Equal.{meta_eq}
 use Rattle.snap_layer.specs.declared.content.Content.{Content}
 use Rattle.snap_layer.specs.declared.content.Content.TheVariants.{Bytes, Sized}
 use Rattle.snap_layer.specs.Tree.{Tree, at, hides, node_hides, path_cmp}
@@ -21,10 +22,10 @@ same_content (Bytes bytes) (Bytes others) = bytes_eq bytes others
 same_content (Sized size (Some digest)) (Sized other (Some others)) = size == other && bytes_eq digest others
 same_content content other = false
 
--- two directories of one mode, two files of one mode and content, or two symlinks with one target
+-- two directories with the same meta, two files with the same meta and content, or two symlinks with one target
 abbrev pub same : Object → Object → Bool
-same (dir mode) (dir other) = mode == other
-same (file mode content) (file other others) = mode == other && same_content content others
+same (dir meta) (dir other) = meta_eq meta other
+same (file meta content) (file other others) = meta_eq meta other && same_content content others
 same (symlink target) (symlink other) = bytes_eq target other
 same object other = false
 
@@ -60,7 +61,7 @@ both_names old new p = put_names (names old p) (put_names (names new p) [])
 
 -- what is in a directory; in what is no directory nothing is told
 abbrev pub if_directory : Option Object → List Change → List Change
-if_directory (Some (dir mode)) changes = changes
+if_directory (Some (dir meta)) changes = changes
 if_directory other changes = []
 
 -- the changes at the path and below it, at so many names in a row at the most: a directory before what is in it

@@ -3,9 +3,9 @@ ghost use Rattle.std.specs.Option.{option_map};
 ghost use Rattle.snap_merge.specs.Objects.{object};
 ghost use Rattle.snap_diff.specs.Changes.{change_at, change_word, same, same_content};
 
+use crate::text::PathText;
 use snap_layer::Content;
 use snap_merge::Seen;
-use snap_path::Path;
 
 /// How what is seen at a path differs from what is seen there without the layer.
 #[derive(Clone, Copy, Debug, PartialEq, Eq)]
@@ -36,7 +36,7 @@ impl ChangeKind {
 #[derive(Debug, Drop)]
 pub struct Change {
     pub kind: ChangeKind,
-    pub path: Path,
+    pub path: PathText,
 }
 
 /// Whether the two are known and equal.
@@ -64,14 +64,14 @@ fn same(old: Seen<'_>, new: Seen<'_>) -> bool
     ensures { result ≡ same (object old.entry) (object new.entry) }
 {
     match (old, new) {
-        (Seen::Dir { mode }, Seen::Dir { mode: other }) => mode == other,
+        (Seen::Dir { meta }, Seen::Dir { meta: other }) => meta == other,
         (
-            Seen::File { mode, content },
+            Seen::File { meta, content },
             Seen::File {
-                mode: other,
+                meta: other,
                 content: others,
             },
-        ) => mode == other && same_content(content, others),
+        ) => meta == other && same_content(content, others),
         (Seen::Symlink { target }, Seen::Symlink { target: other }) => target == other,
         _ => false,
     }

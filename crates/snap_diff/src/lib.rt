@@ -6,7 +6,9 @@
 
 mod change;
 mod own;
+mod text;
 mod walk;
 
 pub use change::{Change, ChangeKind};
+pub use text::PathText;
 pub use walk::changes;
