@@ -35,10 +35,9 @@ WITHOUT = {
     "snap_layer/Equal.antt": "node_eq_equiv content_eq_equiv body_eq_equiv tree_eq_equiv",
     "snap_layer/Rows.antt": "items_at bound_of items_from",
     "snap_mount/Mounts.antt": "bind_mount overlay_mount upperdir lowerdir",
-    "snap_call/Promised.antt": "Promised",
     "snap_call/Records.antt": "record_at is_slot charge_at",
     "snap_call/Step.antt":
-        "place_for prepared prepare prepare_view charge leases_after committed commit_as commit sweep_at sweep",
+        "place_for prepared prepare prepare_view charge leases_after committed commit_as sweep_at sweep",
     "snap_history/Changes.antt":
         "with_share no_change change_by change_of recharged_to slot_shares shares_by shares_after is_own",
     "snap_book/Opening.antt": "IsSaid",

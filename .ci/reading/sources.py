@@ -9,6 +9,8 @@ from libraries import TOP, crates
 
 # An import: the path, and the names of its list, which may go over several lines, or the word for all of it.
 USE = re.compile(r"(?m)^[ \t]*(?:pub )?(?:ghost )?use ([\w.:◌-]+?)(?:(?:::|\.)\{([^}]*)\}| as (\w+))?;?[ \t]*$")
+# What a file of definitions shows of another one.
+SHOWN = re.compile(r"(?m)^pub use Rattle\.([\w.]+)\.\{([^}]*)\}$")
 HEAD = re.compile(r"((?:(?:pub|abbrev|unfoldable|opaque|data|record) )+)(?!mod |use |mutual$)([^\s:(){}]+)")
 FIELD = re.compile(r"  pub (\w+) :")
 TITLE = re.compile(r"-- -+ (.+)")
@@ -122,6 +124,13 @@ def module_of(path):
 
 
 @cache
+def shown_again():
+    """The definitions that files of specs/ show of others, by module and name: the module and the name of each."""
+    shown = [(module_of(path), *it) for crate in crates() for path in specs_of(crate) for it in SHOWN.findall(read(path))]
+    return {(module, it.strip()): (place, it.strip()) for module, place, names in shown for it in names.split(",")}
+
+
+@cache
 def scope(path):
     """What each word of a source stands for: a module and a name, or a module alone for `use .. as WORD`."""
     words = {}
@@ -133,7 +142,8 @@ def scope(path):
             words[alias] = (module, None)
         for item in names:
             name, _, short = item.partition(" as ")
-            words |= {it: (module, name) for it in words_of(short or name)}
+            key = shown_again().get((module, name), (module, name))
+            words |= {it: key for it in words_of(short or name)}
     for name in [it.name for it in defined_in(path) if it.name] if path.endswith(".antt") else []:
         words.setdefault(name, (module_of(path), name))
     return words

@@ -22,7 +22,7 @@ use Rattle.snap_call.specs.declared.state.State.{State}
 use Rattle.snap_call.specs.Good.{Good}
 use Rattle.snap_call.specs.Records.{charge_of, charge_at, committed_at, has_slot, is_active, is_named, open_count, record_at, with_record, without_key, relabelled}
 use Rattle.snap_call.specs.State.{place_of, shown_layers, with_namespace, without_namespace}
-use Rattle.snap_call.specs.Step.{added, leasing, limited_at, spacing, removed_at, relabelled_at}
+use Rattle.snap_call.specs.Step.{added, leasing, spacing, removed_at, relabelled_at}
 use Rattle.snap_call.proofs.Alike.{bare-relabelled, alike-charge_of, alike-charge_at, alike-open_count}
 use Rattle.snap_call.proofs.Counts.{open_count-with_record, open_count-without_idle}
 use Rattle.snap_call.proofs.Keeping.{good_relabelled, good_removed, good_view_added, place_of-below, placed_below, removed_others, removed_total}
@@ -35,6 +35,7 @@ use Rattle.snap_call.proofs.Sums.{plus-none, charge_of-covers, charge_of-elsewhe
 use Rattle.snap_accounts.specs.Accounts.{AreAccounts}
 use Rattle.snap_accounts.specs.Changes.{IsEmptySpace, IsLimitFor, IsNewSpace, IsLeaseName, IsNewView, IsSpace, IsUnused}
 use Rattle.snap_accounts.proofs.Accounting.{accounts_kept, accounts_total}
+use Rattle.snap_call.proofs.Parts.{limited_at}
 
 -- ---- a view more
 

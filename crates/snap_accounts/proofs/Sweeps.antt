@@ -5,7 +5,7 @@ use Rattle.snap_ledger.specs.States.{ChargeState, minus}
 use Rattle.snap_record.specs.Labels.{Bytes}
 use Rattle.snap_call.specs.declared.state.State.{State}
 use Rattle.snap_call.specs.Good.{Good}
-use Rattle.snap_call.specs.Reached.{swept, unswept}
+use Rattle.snap_call.specs.Reached.{swept}
 use Rattle.snap_call.specs.Records.{charge_of, without_keys}
 use Rattle.snap_call.specs.Step.{swept_at}
 use Rattle.snap_call.proofs.Gathered.{without_keys-unswept}
@@ -14,6 +14,7 @@ use Rattle.snap_call.proofs.Sweeping.{charge_at-unswept, good_swept, open_count-
 use Rattle.snap_accounts.specs.Accounts.{AreAccounts}
 use Rattle.snap_accounts.specs.Changes.{IsSweepAt}
 use Rattle.snap_accounts.proofs.Accounting.{accounts_total}
+use Rattle.snap_call.proofs.Parts.{unswept}
 
 module _ (s : State) (place : ℕ) (namespace : Bytes) (moment : ℕ) (keys : List Bytes) (freed : Usage) (is : IsSweepAt s place namespace moment keys freed) where
   -- the records that stay

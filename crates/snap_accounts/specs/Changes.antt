@@ -12,8 +12,8 @@ use Rattle.snap_call.specs.declared.config.Namespace.{Namespace}
 use Rattle.snap_call.specs.Forms.{is_limit, is_namespace}
 use Rattle.snap_call.specs.Records.{charge_of, committed_at, has_children, has_records, is_active, record_at}
 use Rattle.snap_call.specs.Reached.{swept as swept_records, swept_keys}
-use Rattle.snap_call.specs.State.{name_at, place_of, shown_layers, with_namespace, without_namespace}
-use Rattle.snap_call.specs.Step.{added, counted, leasing, limited_at, spacing, removed_at, relabelled_at, swept_at}
+use Rattle.snap_call.specs.State.{name_at, place_of, shown_layers, with_namespace, without_namespace, with_limit}
+use Rattle.snap_call.specs.Step.{added, counted, leasing, spacing, removed_at, relabelled_at, swept_at}
 use Rattle.snap_accounts.specs.declared.change.Change.{Change}
 use Rattle.snap_accounts.specs.declared.change.Change.TheVariants.{Nothing, View, Removal, Labels, Space, SpaceEnd, Limit, Lease, LeaseName, LeaseNameEnd, LeaseEnd, Sweep}
 use Rattle.snap_accounts.specs.Vacant.{IsSite}
@@ -26,7 +26,7 @@ changed_state s (Removal place key) = removed_at s place key
 changed_state s (Labels place key labels) = relabelled_at s place key labels
 changed_state s (Space n) = spacing s (with_namespace n s.namespaces)
 changed_state s (SpaceEnd place) = spacing s (without_namespace place s.namespaces)
-changed_state s (Limit place n) = limited_at s place n.limit
+changed_state s (Limit place n) = spacing s (with_limit place n.limit s.namespaces)
 changed_state s (Lease namespace lease until) = leasing s (s.leases ++ empty_lease namespace lease until ∷ [])
 changed_state s (LeaseName namespace lease name) = leasing s (with_name_added s.leases namespace lease name)
 changed_state s (LeaseNameEnd namespace lease name) = leasing s (with_name_dropped s.leases namespace lease name)

@@ -18,7 +18,7 @@ ghost use Rattle.snap_accounts.specs.Vacant.{IsSite};
 use crate::accounts::Accounts;
 use snap_call::limits::MAX_ID;
 use snap_call::{Call, Chain, Namespace, Refusal, Removed, Reply, is_key};
-use snap_layer::{Layer, Shared};
+use snap_layer::{Layer, Meta, Shared};
 use snap_ledger::StoreName;
 use snap_path::limits::DEFAULT_MODE;
 use snap_record::{
@@ -111,9 +111,10 @@ fn removals(change: &Change) -> usize
 
 // An empty layer.
 fn empty_layer(alloc: Global) -> Result<Shared, AllocError>
-    ensures { IfOk result (λ layer. layer ≡ root_only 493 1) }
+    ensures { IfOk result (λ layer. layer ≡ root_only (record { mode = 493 }) 1) }
 {
-    match Shared::new(Layer::empty(alloc, DEFAULT_MODE)?) {
+    let meta = Meta { mode: DEFAULT_MODE };
+    match Shared::new(Layer::empty(alloc, meta)?) {
         Ok(layer) => Ok(layer),
         Err((no_memory, _)) => Err(no_memory.into()),
     }

@@ -3,11 +3,12 @@ ghost use Rattle.std.specs.Prelude.{◌≡◌, ◌<◌, ◌^◌, ◌+◌, ◌++�
 ghost use Rattle.snap_lease.specs.Lease.{empty_lease};
 ghost use Rattle.snap_lease.specs.Leases.{has_lease, lease_names, with_name_added, with_name_dropped, without_lease};
 ghost use Rattle.snap_call.specs.Records.{open_count};
-ghost use Rattle.snap_call.specs.Step.{leasing, limited_at, refused};
+ghost use Rattle.snap_call.specs.Step.{leasing, refused, spacing};
 ghost use Rattle.snap_call.specs.Steps.{lease_add, lease_create, lease_drop, lease_release, set_limit};
 ghost use Rattle.snap_call.specs.declared.reply.Reply.TheVariants.{Done};
 ghost use Rattle.snap_accounts.specs.Changes.{CanChange, IsLimitFor, IsLeaseName, IsSpace, changed_state};
 ghost use Rattle.snap_accounts.specs.Entries.{IsInEntry, IsRecorded};
+ghost use Rattle.snap_call.specs.State.{with_limit};
 
 use crate::accounts::Accounts;
 use crate::change::Change;
@@ -21,7 +22,7 @@ use std::alloc::AllocError;
 impl<N: StoreName> Accounts<N> {
     // The place of a namespace that can have the limit, or why it can't.
     fn check_limit(&self, namespace: &str, limit: Usage) -> Result<usize, Refusal>
-        ensures ok { IfOk result (λ place. set_limit self.now namespace.now limit ≡ (limited_at self.now place limit, Done)) }
+        ensures ok { IfOk result (λ place. set_limit self.now namespace.now limit ≡ (spacing self.now (with_limit place limit self.now.namespaces), Done)) }
         ensures fits { IfOk result (λ place. IsLimitFor self.now place (record { name = namespace.now; limit = limit })) }
         ensures recorded { IfErr result IsRecorded }
         ensures refused { IfErr result (λ why. set_limit self.now namespace.now limit ≡ refused self.now why) }
@@ -252,7 +253,7 @@ impl<N: StoreName> Accounts<N> {
     pub(crate) fn limit(&mut self, place: usize, namespace: Namespace)
         requires possible { IsLimitFor self.old place namespace }
         requires entries { self.old.entries < 2 ^ 63 }
-        ensures done { self.new ≡ limited_at self.old place namespace.limit }
+        ensures done { self.new ≡ spacing self.old (with_limit place namespace.limit self.old.namespaces) }
         ensures open { open_count self.new.records ≡ open_count self.old.records }
     {
         self.state.set_limit(place, namespace);

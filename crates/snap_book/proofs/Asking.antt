@@ -22,7 +22,7 @@ pub small : (s : State) → Good s → (place : ℕ) → AreSmall s.records plac
 small s good place key r e =
     let inside : r.namespace < length s.namespaces = record_at-all (λ t. t.namespace < length s.namespaces) place key s.records r e (placed_below s good) in
     let covers = charge_of-covers (is_named place key) s.records r e in
-    let within = good.within r.namespace inside in
+    let within = good.promised.within r.namespace inside in
     let limit = limit_at r.namespace s.namespaces in
     let h = and_parts (nat_le limit.blocks 1099511627776) (nat_le limit.inodes 1099511627776) (good.limits r.namespace inside) in
     let blocks = leb-true _ _ h.0 in

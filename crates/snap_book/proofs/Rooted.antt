@@ -4,14 +4,13 @@ use Rattle.std.specs.Prelude.{Option, cond, count_by}
 use Rattle.std.specs.Map.{lookup, values_of}
 use Rattle.std.specs.BTreeMap.{is_at}
 use Rattle.std.proofs.lemmas.List.Sums.{sum_by-cons}
-use Rattle.snap_path.specs.Limits.{most_mode}
 use Rattle.snap_path.specs.Text.{Names}
 use Rattle.snap_layer.specs.declared.node.Node.{Node}
 use Rattle.snap_layer.specs.Tree.{Tree, Entries, path_cmp, at, is_dir, IsDirAt}
 use Rattle.snap_layer.specs.Counts.{dir_count}
-use Rattle.snap_layer.specs.Layers.{IsLayer, IsWhole}
+use Rattle.snap_layer.specs.Layers.{IsLayer, IsWhole, IsMeta}
 use Rattle.snap_layer.specs.declared.node.Node.TheVariants.{Dir, File, Symlink, Whiteout}
-use Rattle.snap_book.specs.Active.{mode_of_root}
+use Rattle.snap_book.specs.Active.{meta_of_root}
 use Rattle.snap_usage.specs.Counted.{count_of}
 use Rattle.snap_ledger.specs.States.{CoversOne}
 
@@ -43,9 +42,9 @@ root_count t (Some n) e h = found_count t.entries is_dir (is_at (path_cmp [])) n
 pub count_covers_one : (t : Tree) → IsLayer t → CoversOne (count_of t)
 count_covers_one t layer = let root = root_count t (at t []) refl layer.root in record { blocks = omega (arith, root); inodes = omega (arith, root) }
 
--- its permission bits are at most octal 7777, as those of each directory
-pub mode-low : (t : Tree) (p : Names) (n : Node) → IsLayer t → at t p ≡ Some n → mode_of_root (Some n) ≤ most_mode
-mode-low t p (Dir mode opaque) layer e = let whole : IsWhole t (Dir mode opaque) = layer.nodes p (Dir mode opaque) e in whole
-mode-low t p (File number) layer e = omega arith
-mode-low t p (Symlink number) layer e = omega arith
-mode-low t p Whiteout layer e = omega arith
+-- its meta is whole, as that of each directory
+pub meta-whole : (t : Tree) (p : Names) (n : Node) → IsLayer t → at t p ≡ Some n → IsMeta (meta_of_root (Some n))
+meta-whole t p (Dir meta opaque) layer e = let whole : IsWhole t (Dir meta opaque) = layer.nodes p (Dir meta opaque) e in whole
+meta-whole t p (File number) layer e = omega arith
+meta-whole t p (Symlink number) layer e = omega arith
+meta-whole t p Whiteout layer e = omega arith

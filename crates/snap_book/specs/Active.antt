@@ -1,5 +1,6 @@
 -- What clauses see of a snapshot in its writer's hands.
 use Rattle.std.specs.Prelude.{ℕ, List, [], ◌∷◌, Option, Some}
+use Rattle.snap_layer.specs.declared.node.Meta.{Meta}
 use Rattle.snap_layer.specs.declared.node.Node.{Node}
 use Rattle.snap_layer.specs.declared.node.Node.TheVariants.{Dir}
 use Rattle.snap_layer.specs.Edits.{root_within}
@@ -15,16 +16,16 @@ pub record ActiveValue : Type 0 where
   pub layer : Tree
   pub share : ShareState
 
--- the permission bits of a directory; those of nothing, and of all else, are 755 in octal
-abbrev pub mode_of_root : Option Node → ℕ
-mode_of_root (Some (Dir mode opaque)) = mode
-mode_of_root other = 493
+-- what a directory has besides its kind; nothing, and all else, has the permission bits 755 in octal
+abbrev pub meta_of_root : Option Node → Meta
+meta_of_root (Some (Dir meta opaque)) = meta
+meta_of_root other = record { mode = 493 }
 
--- the permission bits of the root of a new layer over these: those of the nearest one's root, and 755 in octal where there is none
-abbrev pub root_mode : List Tree → ℕ
-root_mode [] = 493
-root_mode (layer ∷ layers) = mode_of_root (at layer [])
+-- what the root of a new layer over these has besides its kind: all that the nearest one's root has, and the permission bits 755 in octal where there is none
+abbrev pub root_meta : List Tree → Meta
+root_meta [] = record { mode = 493 }
+root_meta (layer ∷ layers) = meta_of_root (at layer [])
 
 -- the layer of a new snapshot over these: a root alone, which may have so many inodes
 abbrev pub fresh : ℕ → List Tree → Tree
-fresh inodes lowers = root_within inodes (root_mode lowers) 1
+fresh inodes lowers = root_within inodes (root_meta lowers) 1

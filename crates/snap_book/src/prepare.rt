@@ -1,6 +1,7 @@
 // A new active snapshot.
 ghost use Rattle.std.specs.Prelude.{◌≡◌, ◌<◌, ◌≤◌, ◌+◌, ◌^◌, ◌↔◌, length, IfOk, OnOk, OnErr, IfErr, IsErrOf, Some, false, true};
-ghost use Rattle.snap_path.specs.Limits.{most_mode, most_number};
+ghost use Rattle.snap_path.specs.Limits.{most_number};
+ghost use Rattle.snap_layer.specs.Layers.{IsMeta};
 ghost use Rattle.snap_call.specs.Forms.{is_layer_limit};
 ghost use Rattle.snap_call.specs.Records.{open_count};
 ghost use Rattle.snap_call.specs.State.{place_of, ancestors, ids_of, is_too_deep, layers_of};
@@ -10,7 +11,7 @@ ghost use Rattle.snap_call.specs.declared.call.Given.TheVariants.{Nothing};
 ghost use Rattle.snap_call.specs.declared.reply.Reply.TheVariants.{Prepared};
 ghost use Rattle.snap_call.specs.declared.refusal.Refusal.TheVariants.{JournalFull};
 ghost use Rattle.snap_accounts.specs.Vacant.{IsVacant};
-ghost use Rattle.snap_book.specs.Active.{fresh, root_mode};
+ghost use Rattle.snap_book.specs.Active.{fresh, root_meta};
 ghost use Rattle.snap_book.specs.Book.{Recorded, RefusedBy, prepare_reply};
 
 use crate::active::Active;
@@ -18,25 +19,26 @@ use crate::book::Book;
 use crate::journal::shared;
 use snap_accounts::{Accounts, Vacancy};
 use snap_call::{Call, Chain, EntryRoom, Given, Refusal, Reply};
-use snap_layer::{Layer, Node, Shared};
+use snap_layer::{Layer, Meta, Node, Shared};
 use snap_ledger::StoreName;
 use snap_path::Path;
 use snap_path::limits::DEFAULT_MODE;
 use snap_record::{Labels, Sequence, Text};
 use std::alloc::{AllocError, Global};
 
-// The permission bits for the root of a new layer over these.
-fn root_mode(alloc: Global, lowers: &[Shared]) -> u32
-    ensures mode { result ≡ root_mode lowers.now }
-    ensures low { result ≤ most_mode }
+// What the root of a new layer over these has besides its kind.
+fn root_meta(alloc: Global, lowers: &[Shared]) -> Meta
+    ensures meta { result ≡ root_meta lowers.now }
+    ensures whole { IsMeta result }
 {
+    let usual = Meta { mode: DEFAULT_MODE };
     let Some(nearest) = lowers.first() else {
-        return DEFAULT_MODE;
+        return usual;
     };
     let layer = nearest.layer();
     match layer.at(&Path::root(alloc)) {
-        Some(Node::Dir { mode, .. }) => mode,
-        Some(Node::File { .. } | Node::Symlink { .. } | Node::Whiteout) | None => DEFAULT_MODE,
+        Some(Node::Dir { meta, .. }) => meta,
+        Some(Node::File { .. } | Node::Symlink { .. } | Node::Whiteout) | None => usual,
     }
 }
 
@@ -104,8 +106,8 @@ impl<N: StoreName> Active<N> {
         ensures unchanged { OnErr result (accounts.new ≡ accounts.old) }
     {
         let own_key = Text::copy_of(alloc, key)?;
-        let mode = root_mode(alloc, lowers.as_slice());
-        let layer = Layer::within(alloc, mode, layer_inodes as usize)?;
+        let meta = root_meta(alloc, lowers.as_slice());
+        let layer = Layer::within(alloc, meta, layer_inodes as usize)?;
         let discard_room = EntryRoom::new(alloc)?;
         let share = accounts.add(alloc, vacancy, key, parent, labels)?;
         Ok(Active {

@@ -12,10 +12,10 @@ use Rattle.snap_record.specs.declared.record.Record.{Record}
 use Rattle.snap_call.specs.declared.config.Namespace.{Namespace}
 use Rattle.snap_call.specs.Records.{record_cmp, is_named, record_at, is_slot, active_at, is_committed, committed_at, charge_of, charge_if, charge_at, open_count, with_labels, relabelled, AllPairwise}
 use Rattle.snap_call.specs.State.{place_of, chain_from, is_base, ancestors, ids_of, layer_of, layers_of, most_ancestors}
-use Rattle.snap_call.specs.Good.{IsGuarding}
 use Rattle.snap_call.proofs.Lists.{all-map, some_same, none_some, if_committed, active_one, open_count-cons}
 use Rattle.snap_call.proofs.Chains.{HasParent, NamesStand, chain, chain_over}
 use Rattle.snap_call.proofs.Sums.{part_of}
+use Rattle.snap_call.specs.Promised.{IsGuarding}
 
 -- a record without its labels and the number of its last change
 abbrev pub bare : Record → Record

@@ -1,5 +1,5 @@
 -- Each call leaves the store as many slots as it has.
-use Rattle.std.proofs.Common.{◌≡◌, List, [], ◌∷◌, Bool, true, false, refl, ap, ◌∙◌}
+use Rattle.std.proofs.Common.{◌≡◌, List, Bool, true, false, refl, ◌∙◌}
 use Rattle.std.specs.Prelude.{nat_lt}
 use Rattle.snap_call.specs.declared.call.Call.{Call}
 use Rattle.snap_call.specs.declared.call.Given.{Given}
@@ -8,6 +8,7 @@ use Rattle.snap_call.specs.declared.state.State.{State}
 use Rattle.snap_call.specs.Journal.{Replays}
 use Rattle.snap_call.specs.Records.{max_sessions}
 use Rattle.snap_call.specs.Step.{step}
+use Rattle.snap_call.proofs.Replaying.{Replays-over}
 use Rattle.snap_call.proofs.Stepping.{opened, stepped}
 
 -- no call changes how many slots the store has
@@ -20,5 +21,4 @@ step-slots s call given = stepped (λ t u. u.slots ≡ t.slots) (λ t u slots en
 
 -- nor a whole journal
 pub Replays-slots : (s : State) (j : List Entry) (t : State) → Replays s j t → t.slots ≡ s.slots
-Replays-slots s [] t h = ap (λ (u : State). u.slots) h
-Replays-slots s (e ∷ es) t h = Replays-slots (step s e.call e.given).0 es t h.2 ∙ step-slots s e.call e.given
+Replays-slots = Replays-over (λ s j t. t.slots ≡ s.slots) (λ s. refl) (λ s e es t allowed rest. rest ∙ step-slots s e.call e.given)

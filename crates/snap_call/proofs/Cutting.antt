@@ -30,8 +30,8 @@ use Rattle.snap_call.specs.Good.{HasShortNames}
 use Rattle.snap_call.specs.Kept.{has_namespace, has_snapshot, kept, kept_change, kept_new}
 use Rattle.snap_call.specs.Records.{active_at, has_key, is_named, record_at, info_page, with_labels}
 use Rattle.snap_call.specs.State.{has_name, is_taken, most_namespaces, place_of, with_namespace}
-use Rattle.snap_call.specs.Step.{are_formed, at_record, commit, commit_as, committed, counted, has_named, in_namespace, mounts, place_for, place_on, refused, relabelled_at, spacing, step, sweep_at, unless_refused, update_record}
-use Rattle.snap_call.proofs.Parts.{namespace_create_as, namespace_remove_at, lease_add_record, lease_create_at, lease_drop_at, lease_release_at, prepare_at, remove_record, set_limit_at, view_at}
+use Rattle.snap_call.specs.Step.{are_formed, at_record, commit_as, committed, counted, has_named, in_namespace, mounts, place_for, place_on, refused, relabelled_at, spacing, step, sweep_at, unless_refused, update_record}
+use Rattle.snap_call.proofs.Parts.{namespace_create_as, namespace_remove_at, lease_add_record, lease_create_at, lease_drop_at, lease_release_at, prepare_at, remove_record, set_limit_at, view_at, commit}
 use Rattle.snap_call.proofs.Leasing.{name_is, position-past}
 use Rattle.snap_call.proofs.Indexed.{any-found_some}
 use Rattle.snap_call.proofs.Lists.{find-passes, found-any}

@@ -22,12 +22,13 @@ use Rattle.snap_record.specs.Records.{info_of}
 use Rattle.snap_record.specs.declared.filter.Filter.{Filter}
 use Rattle.snap_record.specs.declared.info.Info.{Info}
 use Rattle.snap_record.specs.declared.record.Record.{Record}
-use Rattle.snap_call.specs.Records.{record_cmp, is_named, record_at, has_key, is_child, child_count, with_record, without_first, with_labels, relabelled, is_walked, info_page}
+use Rattle.snap_call.specs.Records.{record_cmp, is_named, record_at, has_key, is_child, child_count, with_record, without_first, with_labels, relabelled, info_page}
 use Rattle.snap_call.specs.Spaces.{IsOf, IsKeyed, AreParentCounts, amended, edited_record, is_key_after, is_asked, infos_of}
 use Rattle.snap_call.specs.declared.record_edit.RecordEdit.{RecordEdit}
 use Rattle.snap_call.specs.declared.record_edit.RecordEdit.TheVariants as edits
 use Rattle.snap_call.proofs.Lists.{some_same}
 use Rattle.snap_call.proofs.InOrder.{tied-is_named}
+use Rattle.snap_call.proofs.Parts.{is_walked}
 
 -- ---- the first record that passes a test, changed
 

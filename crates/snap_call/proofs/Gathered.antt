@@ -16,11 +16,12 @@ use Rattle.snap_call.specs.declared.state.State.{State}
 use Rattle.snap_call.specs.declared.sweep.Sweep.{Sweep}
 use Rattle.snap_call.specs.Good.{Good}
 use Rattle.snap_call.specs.Marked.{marked}
-use Rattle.snap_call.specs.Reached.{is_reached, is_swept, swept_keys, unswept}
+use Rattle.snap_call.specs.Reached.{is_reached, is_swept, swept_keys}
 use Rattle.snap_call.specs.Records.{charge_of, is_committed, is_named, record_cmp, without_key, without_keys}
 use Rattle.snap_call.proofs.Lists.{all-map}
 use Rattle.snap_call.proofs.InOrder.{own_named, unnamed_before}
 use Rattle.snap_call.proofs.Sums.{blocks, inodes, part_of, plus-joined}
+use Rattle.snap_call.proofs.Parts.{unswept}
 
 -- ---- the marked records
 

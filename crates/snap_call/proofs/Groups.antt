@@ -24,9 +24,9 @@ use Rattle.snap_record.specs.declared.info.Info.{Info}
 use Rattle.snap_record.specs.declared.record.Record.{Record}
 use Rattle.snap_call.specs.Records.{record_cmp, is_named, record_at, has_key, with_record, without_first, without_key}
 use Rattle.snap_call.specs.Spaces.{IsOf, AreOfOne, first_place_of, AreGroups, joined_records, beginning, beginning_cmp, is_key_after, is_asked, infos_of, amended}
-use Rattle.snap_call.proofs.Lists.{all-map, all-with_record, all-without, list_any-none, none-passes, some_same, none_some}
+use Rattle.snap_call.proofs.Lists.{all-append, all-map, all-with_record, all-without, list_any-none, none-passes, some_same, none_some}
 use Rattle.snap_call.proofs.Entries.{without-none, infos-begin}
-use Rattle.snap_call.proofs.Joined.{all-append, all-amended, amended-stops, without-stops, find-others, find-stops, filter-append, filter-none}
+use Rattle.snap_call.proofs.Joined.{all-amended, amended-stops, without-stops, find-others, find-stops, filter-append, filter-none}
 
 -- a group with the bytes that its keys begin with
 abbrev pub Entry : Type 0

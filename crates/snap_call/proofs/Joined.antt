@@ -16,13 +16,14 @@ use Rattle.snap_record.specs.declared.record.Record.{Record}
 use Rattle.snap_record.specs.declared.filter.Filter.{Filter}
 use Rattle.snap_record.specs.Filters.{is_match}
 use Rattle.snap_record.specs.Records.{info_of}
-use Rattle.snap_call.specs.Records.{record_cmp, is_named, record_at, has_key, has_records, is_child, has_children, child_count, with_record, without_first, without_key, is_walked, info_page}
+use Rattle.snap_call.specs.Records.{record_cmp, is_named, record_at, has_key, has_records, is_child, has_children, child_count, with_record, without_first, without_key, info_page}
 use Rattle.snap_call.specs.Spaces.{IsOf, AreFrom, AreCounted, joined_records, amended, edited_record, edited_at}
 use Rattle.snap_call.specs.declared.record_edit.RecordEdit.{RecordEdit}
-use Rattle.snap_call.proofs.Lists.{all-map, all-with_record, all-without}
+use Rattle.snap_call.proofs.Lists.{all-append, all-map, all-with_record, all-without}
 use Rattle.snap_call.proofs.Lengths.{length-with_record, length-without_found}
 use Rattle.snap_lease.proofs.CountLemmas.{is_positive-count_by}
 use Rattle.snap_call.proofs.Entries.{ones, take-nil, without-none, edited-namespace}
+use Rattle.snap_call.proofs.Parts.{is_walked}
 
 -- ---- the namespaces' places
 
@@ -35,10 +36,6 @@ AreAbove place rs = AllByRecursion (λ r. place < r.namespace) rs
 
 below-of : (i place : ℕ) (rs : List Record) → i < place → IsOf i rs → AreBelow place rs
 below-of i place rs lt of = all-map (λ r. r.namespace ≡ i) (λ r. r.namespace < place) (λ r e. omega (arith, e)) rs of
-
-pub all-append : (P : Record → Type 0) (rs ts : List Record) → AllByRecursion P rs → AllByRecursion P ts → AllByRecursion P (rs ++ ts)
-all-append P [] ts p q = q
-all-append P (r ∷ rs) ts p q = (p.0, all-append P rs ts p.1 q)
 
 above-from : (i place : ℕ) (rss : List (List Record)) → place < i → AreFrom i rss → AreAbove place (joined_records rss)
 above-from i place [] lt from = tt

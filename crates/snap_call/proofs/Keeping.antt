@@ -21,7 +21,7 @@ use Rattle.snap_call.specs.declared.config.Namespace.{Namespace}
 use Rattle.snap_call.specs.declared.state.State.{State}
 use Rattle.snap_call.specs.Records.{has_key, has_children, has_slot, is_named, is_slot, record_at, committed_at, active_at, charge_of, with_record, without_slot, without_key, recharged, relabelled, committed_as, HasLowSlot, AreApart}
 use Rattle.snap_call.specs.State.{place_of, name_at, limit_at, is_taken_at, is_base, is_too_deep, ancestors, layers_of, most_ancestors, or_empty, shown_layers}
-use Rattle.snap_call.specs.Good.{IsGuarding, IsUsageCounted, IsShown, Good}
+use Rattle.snap_call.specs.Good.{IsShown, Good}
 use Rattle.snap_call.specs.Step.{counted, one, prepared, committed, leases_after, added, viewed, removed_at, new_record}
 use Rattle.snap_call.proofs.Leasing.{name_at-place, place_of-name_at, place_of-taken, taken-below, guarding-with_name}
 use Rattle.snap_call.proofs.Lengths.{length-with_record, length-without, length-without_found, length-recharged, length-relabelled}
@@ -30,6 +30,7 @@ use Rattle.snap_call.proofs.InOrder.{sorted-with_record, sorted-without, sorted-
 use Rattle.snap_call.proofs.Chains.{HasParent, chain, Keeps, KeepsFor, Every, every, OnParent, AreOn, all_on, IsOther, Keeps-after, Keeps-with_record, Keeps-without_slot, Keeps-recharged, on_other, keeps-without_key, keeps-HasParent, keeps-NamesStand, keeps-some_chain, keeps-ancestors, chain-found, some-within, all-within}
 use Rattle.snap_call.proofs.Sums.{charge_with, charge_of-with_record_own, charge_of-with_record_other, charge_of-covers, charge_of-without_own, charge_of-without_other, charge_of-recharged_own, charge_of-recharged_other, charge_of-committed_own, charge_of-committed_other}
 use Rattle.snap_call.proofs.Alike.{AreAlike, bare-relabelled, all-relabelled, pairwise-relabelled, sorted-relabelled, alike-HasParent, alike-IsGuarding, alike-charge_of, alike-layers, alike-some_chain}
+use Rattle.snap_call.specs.Promised.{IsGuarding, IsUsageCounted}
 
 -- ---- a limit
 
@@ -138,7 +139,7 @@ all_deep s good us all = all-within s.ancestors most_ancestors s.records us (mos
 
 -- each snapshot has a chain
 pub good_chains : (s : State) → Good s → AllByRecursion (λ r. IsSome (chain most_ancestors s.records r)) s.records
-good_chains s good = all_deep s good s.records good.chains
+good_chains s good = all_deep s good s.records good.promised.chains
 
 -- so has a parent that isn't too deep
 pub good_deep : (s : State) → Good s → (place : ℕ) (p : Bytes) → is_too_deep s.ancestors place p s.records ≡ false → is_too_deep most_ancestors place p s.records ≡ false
@@ -149,11 +150,14 @@ good_deep s good place p e = ap not (some-within s.ancestors most_ancestors s.re
 pub good_counters : (s : State) (sessions entries : ℕ) → Good s → Good (record s { sessions = sessions; entries = entries })
 good_counters s m n good = record {
   root = good.root;
-  parents = good.parents;
-  leased = good.leased;
+  promised = record {
+    parents = good.promised.parents;
+    leased = good.promised.leased;
+    counted = good.promised.counted;
+    within = good.promised.within;
+    chains = good.promised.chains;
+  };
   named_once = good.named_once;
-  counted = good.counted;
-  within = good.within;
   limits = good.limits;
   short = good.short;
   distinct = good.distinct;
@@ -168,7 +172,6 @@ good_counters s m n good = record {
   shown = good.shown;
   layers = good.layers;
   most = good.most;
-  chains = good.chains;
 }
 
 pub good_counted : (s : State) → Good s → Good (counted s)
@@ -183,11 +186,14 @@ pub good_added : (s : State) (r : Record) → Good s → is_taken_at r.namespace
     → Covers (limit_at r.namespace s.namespaces) (plus (charge_of r.namespace s.records) (usage_of r.content)) → Good (added s r)
 good_added s r good taken free base deep next count few shown apart beside room = record {
   root = good.root;
-  parents = stand_parents ns rs ts keeps ts (all-with_record r (HasParent rs) rs base good.parents);
-  leased = stand_leases ns rs ts keeps s.leases good.leased;
+  promised = record {
+    parents = stand_parents ns rs ts keeps ts (all-with_record r (HasParent rs) rs base good.promised.parents);
+    leased = stand_leases ns rs ts keeps s.leases good.promised.leased;
+    counted = all-with_record r (λ t. IsUsageCounted t.content) rs count good.promised.counted;
+    within = within_after ns rs ts r.namespace good.promised.within (subst (λ (u : Usage). Covers (limit_at r.namespace ns) u) (sym (charge_of-with_record_own r rs)) room) (λ p apart. charge_of-with_record_other p r rs apart);
+    chains = stand_chains ns rs ts keeps s.ancestors ts chained;
+  };
   named_once = good.named_once;
-  counted = all-with_record r (λ t. IsUsageCounted t.content) rs count good.counted;
-  within = within_after ns rs ts r.namespace good.within (subst (λ (u : Usage). Covers (limit_at r.namespace ns) u) (sym (charge_of-with_record_own r rs)) room) (λ p apart. charge_of-with_record_other p r rs apart);
   limits = good.limits;
   short = good.short;
   distinct = good.distinct;
@@ -205,7 +211,6 @@ good_added s r good taken free base deep next count few shown apart beside room 
   shown = stand_shown ns rs ts keeps ts (all_deep s good ts chained) (all-with_record r (λ t. IsShown rs t.namespace t.parent t.content) rs shown good.shown);
   layers = good.layers;
   most = good.most;
-  chains = stand_chains ns rs ts keeps s.ancestors ts chained;
 }
   where
     ns : List Namespace
@@ -221,7 +226,7 @@ good_added s r good taken free base deep next count few shown apart beside room 
     keeps = Keeps-with_record r rs free
 
     chained : AllByRecursion (λ t. IsSome (chain s.ancestors rs t)) ts
-    chained = all-with_record r (λ t. IsSome (chain s.ancestors rs t)) rs (chain-found s.ancestors rs r.namespace r.parent deep) good.chains
+    chained = all-with_record r (λ t. IsSome (chain s.ancestors rs t)) rs (chain-found s.ancestors rs r.namespace r.parent deep) good.promised.chains
 
 pub good_prepared : (s : State) (place : ℕ) (key parent : Bytes) (labels : List Label) (slot : ℕ) → Good s → is_taken_at place s.namespaces ≡ true → has_key place key s.records ≡ false
     → is_base place parent s.records ≡ true → is_too_deep s.ancestors place parent s.records ≡ false → slot < s.slots → active_at slot s.records ≡ None
@@ -249,7 +254,7 @@ good_view_added s r good is next low free base deep =
     good_added s r good low free base deep next (subst IsUsageCounted (sym is) tt) (subst (HasLowSlot s.slots) (sym is) tt) (subst (IsShown s.records r.namespace r.parent) (sym is) refl)
     (all-map (λ t. HasLowSlot s.slots t.content) (AreApart r) (λ t h k held. absurd (true≢false (sym held ∙ ap (has_slot k) is))) s.records good.open_slots)
     (all-map (λ t. HasLowSlot s.slots t.content) (λ t. AreApart t r) (λ t h k held. ap (has_slot k) is) s.records good.open_slots)
-    (subst (λ (u : Usage). Covers (limit_at r.namespace s.namespaces) (plus (charge_of r.namespace s.records) u)) (sym (ap usage_of is)) (nothing_more (limit_at r.namespace s.namespaces) (charge_of r.namespace s.records) (good.within r.namespace (taken-below r.namespace s.namespaces low))))
+    (subst (λ (u : Usage). Covers (limit_at r.namespace s.namespaces) (plus (charge_of r.namespace s.records) u)) (sym (ap usage_of is)) (nothing_more (limit_at r.namespace s.namespaces) (charge_of r.namespace s.records) (good.promised.within r.namespace (taken-below r.namespace s.namespaces low))))
 
 pub good_viewed : (s : State) (place : ℕ) (key parent : Bytes) (labels : List Label) → Good s → is_taken_at place s.namespaces ≡ true → has_key place key s.records ≡ false
     → is_base place parent s.records ≡ true → is_too_deep s.ancestors place parent s.records ≡ false → Good (viewed s place key parent labels).0
@@ -267,11 +272,14 @@ module _ (slot : ℕ) (to : Usage) where
       → Good (record s { records = recharged slot to s.records; entries = s.entries + 1 })
   good_recharged s r good e room = record {
     root = good.root;
-    parents = stand_parents ns rs ts keeps ts (all-recharged slot to (HasParent rs) rs (λ t is h. h) good.parents);
-    leased = stand_leases ns rs ts keeps s.leases good.leased;
+    promised = record {
+      parents = stand_parents ns rs ts keeps ts (all-recharged slot to (HasParent rs) rs (λ t is h. h) good.promised.parents);
+      leased = stand_leases ns rs ts keeps s.leases good.promised.leased;
+      counted = all-recharged slot to (λ t. IsUsageCounted t.content) rs (λ t is h. tt) good.promised.counted;
+      within = within_after ns rs ts r.namespace good.promised.within (subst (λ (u : Usage). Covers (limit_at r.namespace ns) u) (sym (charge_of-recharged_own slot to rs r e)) room) (λ p apart. charge_of-recharged_other p slot to rs r e apart);
+      chains = stand_chains ns rs ts keeps s.ancestors ts chained;
+    };
     named_once = good.named_once;
-    counted = all-recharged slot to (λ t. IsUsageCounted t.content) rs (λ t is h. tt) good.counted;
-    within = within_after ns rs ts r.namespace good.within (subst (λ (u : Usage). Covers (limit_at r.namespace ns) u) (sym (charge_of-recharged_own slot to rs r e)) room) (λ p apart. charge_of-recharged_other p slot to rs r e apart);
     limits = good.limits;
     short = good.short;
     distinct = good.distinct;
@@ -289,7 +297,6 @@ module _ (slot : ℕ) (to : Usage) where
     shown = stand_shown ns rs ts keeps ts (all_deep s good ts chained) (all-recharged slot to (λ t. IsShown rs t.namespace t.parent t.content) rs (λ t is h. tt) good.shown);
     layers = good.layers;
     most = good.most;
-    chains = stand_chains ns rs ts keeps s.ancestors ts chained;
   }
     where
       ns : List Namespace
@@ -305,13 +312,13 @@ module _ (slot : ℕ) (to : Usage) where
       keeps = Keeps-recharged slot to rs
 
       chained : AllByRecursion (λ t. IsSome (chain s.ancestors rs t)) ts
-      chained = all-recharged slot to (λ t. IsSome (chain s.ancestors rs t)) rs (λ t is h. h) good.chains
+      chained = all-recharged slot to (λ t. IsSome (chain s.ancestors rs t)) rs (λ t is h. h) good.promised.chains
 
 -- the charge of a record gives way to one that it covers
 pub covered : (s : State) (slot : ℕ) (r : Record) (to : Usage) → Good s → active_at slot s.records ≡ Some r → Covers (usage_of r.content) to → Covers (limit_at r.namespace s.namespaces) (charge_with r to s.records)
 covered s slot r to good e less =
     covers_less (limit_at r.namespace s.namespaces) (charge_of r.namespace s.records) (usage_of r.content) to
-    (good.within r.namespace (active_at-all (λ t. t.namespace < length s.namespaces) slot s.records r e (placed_below s good)))
+    (good.promised.within r.namespace (active_at-all (λ t. t.namespace < length s.namespaces) slot s.records r e (placed_below s good)))
     (charge_of-covers (is_slot slot) s.records r e) less
 
 -- ---- a snapshot less
@@ -319,13 +326,16 @@ covered s slot r to good e less =
 pub good_discarded : (s : State) (slot : ℕ) (r : Record) → Good s → active_at slot s.records ≡ Some r → Good (record s { records = without_slot slot s.records; entries = s.entries + 1 })
 good_discarded s slot r good e = record {
   root = good.root;
-  parents = stand_parents ns rs ts keeps ts (all-without (is_slot slot) (HasParent rs) rs good.parents);
-  leased = stand_leases ns rs ts keeps s.leases good.leased;
+  promised = record {
+    parents = stand_parents ns rs ts keeps ts (all-without (is_slot slot) (HasParent rs) rs good.promised.parents);
+    leased = stand_leases ns rs ts keeps s.leases good.promised.leased;
+    counted = all-without (is_slot slot) (λ t. IsUsageCounted t.content) rs good.promised.counted;
+    within = within_after ns rs ts r.namespace good.promised.within
+        (subst (λ (u : Usage). Covers (limit_at r.namespace ns) u) (sym (charge_of-without_own (is_slot slot) rs r e)) (covers_gone (limit_at r.namespace ns) (charge_of r.namespace rs) (usage_of r.content) (good.promised.within r.namespace low)))
+        (λ p apart. charge_of-without_other p (is_slot slot) rs r e apart);
+    chains = stand_chains ns rs ts keeps s.ancestors ts chained;
+  };
   named_once = good.named_once;
-  counted = all-without (is_slot slot) (λ t. IsUsageCounted t.content) rs good.counted;
-  within = within_after ns rs ts r.namespace good.within
-      (subst (λ (u : Usage). Covers (limit_at r.namespace ns) u) (sym (charge_of-without_own (is_slot slot) rs r e)) (covers_gone (limit_at r.namespace ns) (charge_of r.namespace rs) (usage_of r.content) (good.within r.namespace low)))
-      (λ p apart. charge_of-without_other p (is_slot slot) rs r e apart);
   limits = good.limits;
   short = good.short;
   distinct = good.distinct;
@@ -340,7 +350,6 @@ good_discarded s slot r good e = record {
   shown = stand_shown ns rs ts keeps ts (all_deep s good ts chained) (all-without (is_slot slot) (λ t. IsShown rs t.namespace t.parent t.content) rs good.shown);
   layers = good.layers;
   most = good.most;
-  chains = stand_chains ns rs ts keeps s.ancestors ts chained;
 }
   where
     ns : List Namespace
@@ -356,7 +365,7 @@ good_discarded s slot r good e = record {
     keeps = Keeps-without_slot slot rs
 
     chained : AllByRecursion (λ t. IsSome (chain s.ancestors rs t)) ts
-    chained = all-without (is_slot slot) (λ t. IsSome (chain s.ancestors rs t)) rs good.chains
+    chained = all-without (is_slot slot) (λ t. IsSome (chain s.ancestors rs t)) rs good.promised.chains
 
     low : r.namespace < length ns
     low = active_at-all (λ t. t.namespace < length ns) slot rs r e (placed_below s good)
@@ -409,13 +418,16 @@ module _ (s : State) (place : ℕ) (key : Bytes) (r : Record) (good : Good s) (e
   pub good_removed : (namespace : Bytes) → place_of namespace s.namespaces ≡ Some place → is_guarded s.leases namespace key ≡ false → Good (removed_at s place key)
   good_removed namespace spaced unleased = record {
     root = good.root;
-    parents = parents_on P rs ts keeps ts on (all-without p (HasParent rs) rs good.parents);
-    leased = leases_on P rs ts keeps ns s.leases (leases_other namespace key ns place spaced s.leases unleased) good.leased;
+    promised = record {
+      parents = parents_on P rs ts keeps ts on (all-without p (HasParent rs) rs good.promised.parents);
+      leased = leases_on P rs ts keeps ns s.leases (leases_other namespace key ns place spaced s.leases unleased) good.promised.leased;
+      counted = all-without p (λ t. IsUsageCounted t.content) rs good.promised.counted;
+      within = within_after ns rs ts place good.promised.within
+          (subst (λ (u : Usage). Covers (limit_at place ns) u) (sym removed_total) (covers_gone (limit_at place ns) (charge_of place rs) (usage_of r.content) (good.promised.within place low)))
+          removed_others;
+      chains = chains_on P rs ts keeps s.ancestors ts on chained;
+    };
     named_once = good.named_once;
-    counted = all-without p (λ t. IsUsageCounted t.content) rs good.counted;
-    within = within_after ns rs ts place good.within
-        (subst (λ (u : Usage). Covers (limit_at place ns) u) (sym removed_total) (covers_gone (limit_at place ns) (charge_of place rs) (usage_of r.content) (good.within place low)))
-        removed_others;
     limits = good.limits;
     short = good.short;
     distinct = good.distinct;
@@ -430,7 +442,6 @@ module _ (s : State) (place : ℕ) (key : Bytes) (r : Record) (good : Good s) (e
     shown = shown_on P rs ts keeps ts on (all_deep s good ts chained) (all-without p (λ t. IsShown rs t.namespace t.parent t.content) rs good.shown);
     layers = good.layers;
     most = good.most;
-    chains = chains_on P rs ts keeps s.ancestors ts on chained;
   }
     where
       P : ℕ → Bytes → Type 0
@@ -455,7 +466,7 @@ module _ (s : State) (place : ℕ) (key : Bytes) (r : Record) (good : Good s) (e
       on = all-without p (λ t. OnParent P t.namespace t.parent) rs (on_other place key rs childless)
 
       chained : AllByRecursion (λ t. IsSome (chain s.ancestors rs t)) ts
-      chained = all-without p (λ t. IsSome (chain s.ancestors rs t)) rs good.chains
+      chained = all-without p (λ t. IsSome (chain s.ancestors rs t)) rs good.promised.chains
 
       low : place < length ns
       low = place_of-below namespace ns place spaced
@@ -466,13 +477,16 @@ pub good_committed : (s : State) (slot : ℕ) (name : Bytes) (lease : Option Byt
     → Good (committed s slot name lease labels layer r).0
 good_committed s slot name lease labels layer r good e free less = record {
   root = good.root;
-  parents = stand_parents ns rs ts keeps ts (all-with_record c (HasParent rs) us (active_at-all (HasParent rs) slot rs r e good.parents) (all-without (is_slot slot) (HasParent rs) rs good.parents));
-  leased = guarding lease;
+  promised = record {
+    parents = stand_parents ns rs ts keeps ts (all-with_record c (HasParent rs) us (active_at-all (HasParent rs) slot rs r e good.promised.parents) (all-without (is_slot slot) (HasParent rs) rs good.promised.parents));
+    leased = guarding lease;
+    counted = all-with_record c (λ t. IsUsageCounted t.content) us refl (all-without (is_slot slot) (λ t. IsUsageCounted t.content) rs good.promised.counted);
+    within = within_after ns rs ts r.namespace good.promised.within
+        (subst (λ (u : Usage). Covers (limit_at r.namespace ns) u) (sym (charge_of-committed_own slot name labels layer (s.entries + 1) rs r e)) (covered s slot r (count_of layer) good e less))
+        (λ p apart. charge_of-committed_other p slot name labels layer (s.entries + 1) rs r e apart);
+    chains = stand_chains ns rs ts keeps s.ancestors ts chained;
+  };
   named_once = once lease;
-  counted = all-with_record c (λ t. IsUsageCounted t.content) us refl (all-without (is_slot slot) (λ t. IsUsageCounted t.content) rs good.counted);
-  within = within_after ns rs ts r.namespace good.within
-      (subst (λ (u : Usage). Covers (limit_at r.namespace ns) u) (sym (charge_of-committed_own slot name labels layer (s.entries + 1) rs r e)) (covered s slot r (count_of layer) good e less))
-      (λ p apart. charge_of-committed_other p slot name labels layer (s.entries + 1) rs r e apart);
   limits = good.limits;
   short = good.short;
   distinct = good.distinct;
@@ -493,7 +507,6 @@ good_committed s slot name lease labels layer r good e free less = record {
   shown = stand_shown ns rs ts keeps ts (all_deep s good ts chained) (all-with_record c (λ t. IsShown rs t.namespace t.parent t.content) us tt (all-without (is_slot slot) (λ t. IsShown rs t.namespace t.parent t.content) rs good.shown));
   layers = good.layers;
   most = good.most;
-  chains = stand_chains ns rs ts keeps s.ancestors ts chained;
 }
   where
     ns : List Namespace
@@ -531,7 +544,7 @@ good_committed s slot name lease labels layer r good e free less = record {
         own = (λ i. eq-eqb r.namespace r.namespace refl i && bytes_eq name name) ∙ (bytes_eq-Decides name name).1 refl
 
     stood : AllByRecursion (IsGuarding ns ts) s.leases
-    stood = stand_leases ns rs ts keeps s.leases good.leased
+    stood = stand_leases ns rs ts keeps s.leases good.promised.leased
 
     guarding : (l : Option Bytes) → AllByRecursion (IsGuarding ns ts) (leases_after s r.namespace name l)
     guarding None = stood
@@ -542,7 +555,7 @@ good_committed s slot name lease labels layer r good e free less = record {
     once (Some l) = NamesOnce-with_name_added (name_at r.namespace ns) l name s.leases good.named_once
 
     chained : AllByRecursion (λ t. IsSome (chain s.ancestors rs t)) ts
-    chained = all-with_record c (λ t. IsSome (chain s.ancestors rs t)) us (active_at-all (λ t. IsSome (chain s.ancestors rs t)) slot rs r e good.chains) (all-without (is_slot slot) (λ t. IsSome (chain s.ancestors rs t)) rs good.chains)
+    chained = all-with_record c (λ t. IsSome (chain s.ancestors rs t)) us (active_at-all (λ t. IsSome (chain s.ancestors rs t)) slot rs r e good.promised.chains) (all-without (is_slot slot) (λ t. IsSome (chain s.ancestors rs t)) rs good.promised.chains)
 
     places : AllByRecursion (λ t. HasLowSlot s.slots t.content) us
     places = all-without (is_slot slot) (λ t. HasLowSlot s.slots t.content) rs good.open_slots
@@ -552,11 +565,14 @@ good_committed s slot name lease labels layer r good e free less = record {
 pub good_relabelled : (s : State) (place : ℕ) (key : Bytes) (labels : List Label) → Good s → Good (record s { records = relabelled place key labels (s.entries + 1) s.records; entries = s.entries + 1 })
 good_relabelled s place key labels good = record {
   root = good.root;
-  parents = all-relabelled place key labels n (HasParent ts) rs (λ t h. h) (all-map (HasParent rs) (HasParent ts) (alike-HasParent rs ts alike) rs good.parents);
-  leased = all-map (IsGuarding ns rs) (IsGuarding ns ts) (alike-IsGuarding rs ts alike ns) s.leases good.leased;
+  promised = record {
+    parents = all-relabelled place key labels n (HasParent ts) rs (λ t h. h) (all-map (HasParent rs) (HasParent ts) (alike-HasParent rs ts alike) rs good.promised.parents);
+    leased = all-map (IsGuarding ns rs) (IsGuarding ns ts) (alike-IsGuarding rs ts alike ns) s.leases good.promised.leased;
+    counted = all-relabelled place key labels n (λ t. IsUsageCounted t.content) rs (λ t h. h) good.promised.counted;
+    within = λ p low. subst (λ (u : Usage). Covers (limit_at p ns) u) (sym (alike-charge_of rs ts alike p)) (good.promised.within p low);
+    chains = all-relabelled place key labels n (λ t. IsSome (chain s.ancestors ts t)) rs (λ t h. h) (all-map (λ t. IsSome (chain s.ancestors rs t)) (λ t. IsSome (chain s.ancestors ts t)) (alike-some_chain rs ts alike s.ancestors) rs good.promised.chains);
+  };
   named_once = good.named_once;
-  counted = all-relabelled place key labels n (λ t. IsUsageCounted t.content) rs (λ t h. h) good.counted;
-  within = λ p low. subst (λ (u : Usage). Covers (limit_at p ns) u) (sym (alike-charge_of rs ts alike p)) (good.within p low);
   limits = good.limits;
   short = good.short;
   distinct = good.distinct;
@@ -572,7 +588,6 @@ good_relabelled s place key labels good = record {
       (all-map (λ t. IsShown rs t.namespace t.parent t.content) (λ t. IsShown ts t.namespace t.parent t.content) (λ t h. shown_anew rs ts t.namespace t.parent t.content (alike-layers rs ts alike t.namespace t.parent) h) rs good.shown);
   layers = good.layers;
   most = good.most;
-  chains = all-relabelled place key labels n (λ t. IsSome (chain s.ancestors ts t)) rs (λ t h. h) (all-map (λ t. IsSome (chain s.ancestors rs t)) (λ t. IsSome (chain s.ancestors ts t)) (alike-some_chain rs ts alike s.ancestors) rs good.chains);
 }
   where
     ns : List Namespace

@@ -1,5 +1,5 @@
 -- Each step keeps what is true of the state, and so does the replay of a journal.
-use Rattle.std.proofs.Common.{◌≡◌, ℕ, zero, suc, ◌+◌, ◌<◌, ◌≤◌, Bool, true, false, true≢false, List, [], ◌∷◌, length, Option, Some, None, refl, sym, ap, subst, arith}
+use Rattle.std.proofs.Common.{◌≡◌, ℕ, zero, suc, ◌+◌, ◌<◌, ◌≤◌, Bool, true, false, true≢false, List, [], ◌∷◌, length, Option, Some, None, refl, ap, arith}
 use Rattle.std.specs.List.{AllByRecursion, list_all, list_any}
 use Rattle.std.specs.List.Sorted.{IsStrictlySortedBy}
 use Rattle.std.specs.Option.{option_map_or, is_some}
@@ -32,15 +32,16 @@ use Rattle.snap_call.specs.Forms.{is_limit, is_layer_limit, is_ancestor_limit, i
 use Rattle.snap_call.specs.Records.{charge_of, has_key, has_children, has_records, is_active, is_committed, record_at, active_at, max_slots, max_journal, max_sessions}
 use Rattle.snap_call.specs.State.{opening, is_taken, most_namespaces, place_of, limit_at}
 use Rattle.snap_call.specs.Good.{Good}
-use Rattle.snap_call.specs.Step.{are_formed, refused, prepared, prepare, greater, fits_limit, charge, trim, commit_as, commit, discard, ask, step, IsCovered, IsAllowed, place_for, slot_for, unless_refused, prepare_view, update_record, in_namespace, has_named, at_record}
+use Rattle.snap_call.specs.Step.{are_formed, refused, prepared, prepare, greater, fits_limit, charge, trim, commit_as, discard, ask, step, IsCovered, IsAllowed, place_for, slot_for, unless_refused, prepare_view, update_record, in_namespace, has_named, at_record}
 use Rattle.snap_call.specs.Steps.{session, remove, update, walk_infos, set_limit, namespace_create, namespace_remove, lease_create, lease_add, lease_drop, lease_release}
-use Rattle.snap_call.proofs.Parts.{prepare_at, charge_to, view_at, remove_record, set_limit_at, namespace_remove_at, lease_add_record, lease_drop_at}
+use Rattle.snap_call.proofs.Parts.{prepare_at, charge_to, view_at, remove_record, set_limit_at, namespace_remove_at, lease_add_record, lease_drop_at, commit}
 use Rattle.snap_call.specs.Journal.{Replays}
 use Rattle.snap_call.proofs.Leasing.{place_of-taken, good_limited, good_created, good_dropped, good_named, good_released}
 use Rattle.snap_call.proofs.Lists.{committed-from}
 use Rattle.snap_call.proofs.Spacing.{good_namespace, good_removed_namespace}
 use Rattle.snap_call.proofs.Sweeping.{good_sweep}
 use Rattle.snap_call.proofs.Lowest.{lowest_free-Some}
+use Rattle.snap_call.proofs.Replaying.{Replays-over}
 use Rattle.snap_call.proofs.Places.{IsPlace, place_for-Ok, slot_for-Ok}
 use Rattle.snap_call.proofs.Keeping.{covers-Covers, place_of-below, good_counters, good_counted, good_prepared, good_viewed, good_recharged, covered, good_discarded, good_removed, good_committed, good_relabelled}
 
@@ -305,11 +306,14 @@ pub good_opening : (c : Config) → is_config c ≡ true → Good (opening c)
 unfolding IsStrictlySortedBy
 good_opening c e = record {
   root = root_formed c e;
-  parents = tt;
-  leased = tt;
+  promised = record {
+    parents = tt;
+    leased = tt;
+    counted = tt;
+    within = λ place low. record { blocks = omega arith; inodes = omega arith };
+    chains = tt;
+  };
   named_once = tt;
-  counted = tt;
-  within = λ place low. record { blocks = omega arith; inodes = omega arith };
   limits = λ place low. limits_from c.namespaces place (namespaces_formed c e).0 low;
   short = short_from c.namespaces (namespaces_formed c e).0;
   distinct = (namespaces_formed c e).1;
@@ -322,7 +326,6 @@ good_opening c e = record {
   slots = tt;
   open_slots = tt;
   shown = tt;
-  chains = tt;
   layers = (parts_formed c e).4;
   most = (parts_formed c e).5;
 }
@@ -331,5 +334,4 @@ good_opening c e = record {
 
 -- the calls of a journal, one after the other
 pub good_replays : (s : State) (j : List Entry) (t : State) → Good s → Replays s j t → Good t
-good_replays s [] t good h = subst Good (sym h) good
-good_replays s (e ∷ es) t good h = good_replays (step s e.call e.given).0 es t (good_step s e.call e.given good h.0) h.2
+good_replays s j t good h = Replays-over (λ s j t. Good s → Good t) (λ s good. good) (λ s e es t allowed rest good. rest (good_step s e.call e.given good allowed)) s j t h good

@@ -17,12 +17,14 @@ use Rattle.snap_record.specs.declared.record.Record.{Record}
 use Rattle.snap_call.specs.declared.config.Namespace.{Namespace}
 use Rattle.snap_call.specs.declared.state.State.{State}
 use Rattle.snap_call.specs.Forms.{have_distinct_names, is_limit}
-use Rattle.snap_call.specs.Good.{IsGuarding, Good}
+use Rattle.snap_call.specs.Good.{Good}
 use Rattle.snap_call.specs.Records.{charge_of, committed_at}
 use Rattle.snap_call.specs.State.{place_of, name_at, limit_at, has_name, is_taken, is_taken_at, with_limit}
-use Rattle.snap_call.specs.Step.{limited_at, leasing}
+use Rattle.snap_call.specs.Step.{leasing}
 use Rattle.snap_call.proofs.Chains.{NamesStand}
 use Rattle.snap_call.proofs.Lists.{all-map, some_same}
+use Rattle.snap_call.proofs.Parts.{limited_at}
+use Rattle.snap_call.specs.Promised.{IsGuarding}
 
 -- ---- the place of a name
 
@@ -179,11 +181,14 @@ module _ (limit : Usage) where
   pub good_limited : (s : State) (place : ℕ) → Good s → place < length s.namespaces → is_limit limit ≡ true → Covers limit (charge_of place s.records) → Good (limited_at s place limit)
   good_limited s place good low is covered = record {
     root = good.root;
-    parents = good.parents;
-    leased = all-map (IsGuarding s.namespaces s.records) (IsGuarding (with_limit place limit s.namespaces) s.records) (λ l h. subst (λ (o : Option ℕ). NamesStand s.records o l.names) (sym (place_of-limited l.namespace place s.namespaces)) h) s.leases good.leased;
+    promised = record {
+      parents = good.promised.parents;
+      leased = all-map (IsGuarding s.namespaces s.records) (IsGuarding (with_limit place limit s.namespaces) s.records) (λ l h. subst (λ (o : Option ℕ). NamesStand s.records o l.names) (sym (place_of-limited l.namespace place s.namespaces)) h) s.leases good.promised.leased;
+      counted = good.promised.counted;
+      within = limits_anew (λ p u. Covers u (charge_of p s.records)) place s.namespaces low covered good.promised.within;
+      chains = good.promised.chains;
+    };
     named_once = good.named_once;
-    counted = good.counted;
-    within = limits_anew (λ p u. Covers u (charge_of p s.records)) place s.namespaces low covered good.within;
     limits = limits_anew (λ p u. is_limit u ≡ true) place s.namespaces low is good.limits;
     short = short-limited place s.namespaces good.short;
     distinct = distinct-limited place s.namespaces ∙ good.distinct;
@@ -198,7 +203,6 @@ module _ (limit : Usage) where
     shown = good.shown;
     layers = good.layers;
     most = good.most;
-    chains = good.chains;
   }
 
 -- ---- other leases
@@ -206,11 +210,14 @@ module _ (limit : Usage) where
 pub good_leasing : (s : State) (ls : List Lease) → Good s → AllByRecursion (IsGuarding s.namespaces s.records) ls → AllByRecursion NamesOnce ls → Good (leasing s ls)
 good_leasing s ls good leased once = record {
   root = good.root;
-  parents = good.parents;
-  leased = leased;
+  promised = record {
+    parents = good.promised.parents;
+    leased = leased;
+    counted = good.promised.counted;
+    within = good.promised.within;
+    chains = good.promised.chains;
+  };
   named_once = once;
-  counted = good.counted;
-  within = good.within;
   limits = good.limits;
   short = good.short;
   distinct = good.distinct;
@@ -225,14 +232,13 @@ good_leasing s ls good leased once = record {
   shown = good.shown;
   layers = good.layers;
   most = good.most;
-  chains = good.chains;
 }
 
 -- no names yet
 pub good_created : (s : State) (namespace lease : Bytes) (until : Option ℕ) (place : ℕ) → Good s → place_of namespace s.namespaces ≡ Some place → Good (leasing s (s.leases ++ empty_lease namespace lease until ∷ []))
 good_created s namespace lease until place good spaced =
     good_leasing s _ good
-    (all-push (IsGuarding s.namespaces s.records) s.leases (empty_lease namespace lease until) good.leased (subst (λ (o : Option ℕ). NamesStand s.records o []) (sym spaced) tt))
+    (all-push (IsGuarding s.namespaces s.records) s.leases (empty_lease namespace lease until) good.promised.leased (subst (λ (o : Option ℕ). NamesStand s.records o []) (sym spaced) tt))
     (all-push NamesOnce s.leases (empty_lease namespace lease until) good.named_once (NamesOnce-empty namespace lease until))
 
 -- a name more, of a committed snapshot of the lease's namespace
@@ -258,7 +264,7 @@ module _ (ns : List Namespace) (rs : List Record) (namespace name : Bytes) (plac
 
 pub good_named : (s : State) (namespace lease name : Bytes) (place : ℕ) → Good s → place_of namespace s.namespaces ≡ Some place → IsSome (committed_at place name s.records) → Good (leasing s (with_name_added s.leases namespace lease name))
 good_named s namespace lease name place good spaced there =
-    good_leasing s _ good (guarding-with_name s.namespaces s.records namespace name place spaced there lease s.leases good.leased) (NamesOnce-with_name_added namespace lease name s.leases good.named_once)
+    good_leasing s _ good (guarding-with_name s.namespaces s.records namespace name place spaced there lease s.leases good.promised.leased) (NamesOnce-with_name_added namespace lease name s.leases good.named_once)
 
 -- a name less
 names_fewer : (rs : List Record) (o : Option ℕ) (p : Bytes → Bool) (names : List Bytes) → NamesStand rs o names → NamesStand rs o (filter p names)
@@ -275,9 +281,9 @@ guarding-without_name ns rs namespace lease name (l ∷ ls) all = (by (is_lease 
 
 pub good_dropped : (s : State) (namespace lease name : Bytes) → Good s → Good (leasing s (with_name_dropped s.leases namespace lease name))
 good_dropped s namespace lease name good =
-    good_leasing s _ good (guarding-without_name s.namespaces s.records namespace lease name s.leases good.leased) (NamesOnce-with_name_dropped namespace lease name s.leases good.named_once)
+    good_leasing s _ good (guarding-without_name s.namespaces s.records namespace lease name s.leases good.promised.leased) (NamesOnce-with_name_dropped namespace lease name s.leases good.named_once)
 
 -- a lease less
 pub good_released : (s : State) (namespace lease : Bytes) → Good s → Good (leasing s (without_lease s.leases namespace lease))
 good_released s namespace lease good =
-    good_leasing s _ good (all-filter (IsGuarding s.namespaces s.records) (λ l. not (is_lease namespace lease l)) s.leases good.leased) (all-filter NamesOnce (λ l. not (is_lease namespace lease l)) s.leases good.named_once)
+    good_leasing s _ good (all-filter (IsGuarding s.namespaces s.records) (λ l. not (is_lease namespace lease l)) s.leases good.promised.leased) (all-filter NamesOnce (λ l. not (is_lease namespace lease l)) s.leases good.named_once)

@@ -1,5 +1,5 @@
 -- Lists of records: what holds of each of them and of any two of them, and what is found, after each change.
-use Rattle.std.proofs.Common.{◌≡◌, ℕ, Bool, true, false, true≢false, eqb, cond, List, [], ◌∷◌, Option, Some, None, refl, sym, ap, ◌∙◌, subst, ◌+◌, length, arith}
+use Rattle.std.proofs.Common.{◌≡◌, ℕ, Bool, true, false, true≢false, eqb, cond, List, [], ◌∷◌, ◌++◌, Option, Some, None, refl, sym, ap, ◌∙◌, subst, ◌+◌, length, arith}
 use Rattle.std.specs.List.{AllByRecursion, find, list_any}
 use Rattle.std.specs.Prelude.{if◌then◌else◌, ◌||◌, filter}
 use Rattle.std.specs.Ordering.{is_lt}
@@ -27,6 +27,10 @@ module _ {X : Type 0} where
   pub all-both : (P Q : X → Type 0) (xs : List X) → AllByRecursion P xs → AllByRecursion Q xs → AllByRecursion (λ x. P x × Q x) xs
   all-both P Q [] p q = tt
   all-both P Q (x ∷ xs) p q = ((p.0, q.0), all-both P Q xs p.1 q.1)
+
+  pub all-append : (P : X → Type 0) (xs ys : List X) → AllByRecursion P xs → AllByRecursion P ys → AllByRecursion P (xs ++ ys)
+  all-append P [] ys p q = q
+  all-append P (x ∷ xs) ys p q = (p.0, all-append P xs ys p.1 q)
 
   pub some_same : (x y : X) → ◌≡◌ {A = Option X} (Some x) (Some y) → x ≡ y
   some_same x y e = cc

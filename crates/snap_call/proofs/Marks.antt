@@ -18,13 +18,14 @@ use Rattle.snap_record.specs.declared.record.Record.{Record}
 use Rattle.snap_call.specs.declared.state.State.{State}
 use Rattle.snap_call.specs.Good.{Good}
 use Rattle.snap_call.specs.Marked.{base_place, parent_place, is_kept, marked}
-use Rattle.snap_call.specs.Reached.{is_in_use, is_ancestor, is_reached, is_swept, swept}
+use Rattle.snap_call.specs.Reached.{is_in_use, is_reached, is_swept, swept}
 use Rattle.snap_call.specs.Records.{record_cmp, is_named, is_committed, committed_at}
 use Rattle.snap_call.specs.State.{chain_from, most_ancestors}
 use Rattle.snap_call.proofs.Lists.{some_same, none_some, committed-parts, find-passes}
 use Rattle.snap_call.proofs.Chains.{chain_over}
 use Rattle.snap_call.proofs.Keeping.{good_chains}
 use Rattle.snap_call.proofs.Searches.{named_once}
+use Rattle.snap_call.proofs.Parts.{is_ancestor}
 
 -- ---- items of a list
 

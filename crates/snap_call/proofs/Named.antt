@@ -12,12 +12,13 @@ use Rattle.snap_record.specs.Labels.{Bytes}
 use Rattle.snap_record.specs.Records.{info_of}
 use Rattle.snap_record.specs.declared.filter.Filter.{Filter}
 use Rattle.snap_record.specs.declared.record.Record.{Record}
-use Rattle.snap_call.specs.Records.{record_cmp, is_named, record_at, is_walked, info_page}
+use Rattle.snap_call.specs.Records.{record_cmp, is_named, record_at, info_page}
 use Rattle.snap_call.specs.Spaces.{is_key_after, is_asked}
 use Rattle.snap_call.proofs.Entries.{take-nil}
 use Rattle.snap_call.proofs.InOrder.{unnamed_before}
 use Rattle.snap_call.proofs.Joined.{filter-none}
 use Rattle.snap_call.proofs.Lists.{all-map}
+use Rattle.snap_call.proofs.Parts.{is_walked}
 
 module _ (place : ℕ) (after key : Bytes) (asked : Filter) (names : asked.name ≡ Some key) where
   -- a record of another name is not asked for

@@ -1,6 +1,9 @@
 -- Parts of the steps of calls, which proofs by cases go through.
-use Rattle.std.specs.Prelude.{ℕ, ◌+◌, ◌||◌, count_by, nat_le, nat_lt, List, [], ◌∷◌, ◌++◌, Option, Result, Ok, Err}
+use Rattle.std.specs.Prelude.{ℕ, ◌+◌, ◌==◌, ◌&&◌, ◌||◌, Bool, not, bytes_eq, count_by, filter, nat_le, nat_lt, List, [], ◌∷◌, ◌++◌, Option, Result, Ok, Err}
+use Rattle.std.specs.Cmp.Lexicographic.{slice_cmp}
+use Rattle.std.specs.List.{list_any}
 use Rattle.std.specs.Option.{option_map_or, is_some}
+use Rattle.std.specs.Ordering.{is_lt, nat_cmp}
 use Rattle.snap_path.specs.Limits.{most_number}
 use Rattle.snap_usage.specs.declared.usage.Usage.{Usage}
 use Rattle.snap_usage.specs.Counted.{covers}
@@ -8,18 +11,44 @@ use Rattle.snap_ledger.specs.States.{plus}
 use Rattle.snap_lease.specs.Lease.{empty_lease}
 use Rattle.snap_lease.specs.Leases.{is_guarded, has_lease, has_leases, lease_names, with_name_added, with_name_dropped, without_lease}
 use Rattle.snap_record.specs.Labels.{Bytes, Label}
-use Rattle.snap_record.specs.Records.{usage_of}
+use Rattle.snap_record.specs.Filters.{is_match}
+use Rattle.snap_record.specs.Records.{info_of, usage_of}
+use Rattle.snap_record.specs.declared.filter.Filter.{Filter}
 use Rattle.snap_record.specs.declared.record.Record.{Record}
 use Rattle.snap_call.specs.declared.refusal.Refusal.{Refusal}
 use Rattle.snap_call.specs.declared.refusal.Refusal.TheVariants.{BadArgument, NamespaceExists, TooManyNamespaces, NotEmpty, NotFound, NotCommitted, HasChildren, InUse, Leased, NoLease, LeaseExists, TooManyActives, BelowCharge, NumbersSpent}
 use Rattle.snap_call.specs.declared.reply.Reply.{Reply}
 use Rattle.snap_call.specs.declared.reply.Reply.TheVariants.{Charged, Removed, Done}
 use Rattle.snap_call.specs.declared.state.State.{State}
-use Rattle.snap_call.specs.Records.{has_children, has_records, is_active, is_committed, charge_of, recharged}
+use Rattle.snap_call.specs.Records.{active_at, has_children, has_records, is_active, is_committed, charge_of, recharged}
+use Rattle.snap_call.specs.declared.call.Given.{Given}
+use Rattle.snap_call.specs.declared.call.Given.TheVariants.{Layer}
 use Rattle.snap_call.specs.declared.config.Namespace.{Namespace}
 use Rattle.snap_call.specs.Forms.{is_namespace}
-use Rattle.snap_call.specs.State.{is_taken, limit_at, most_namespaces, over_limit, place_of, with_namespace, without_namespace}
-use Rattle.snap_call.specs.Step.{must, must_not, tested, refused, one, unless_refused, slot_for, prepared, viewed, removed_at, limited_at, leasing, spacing}
+use Rattle.snap_call.specs.State.{is_taken, limit_at, most_namespaces, over_limit, place_of, ancestors, with_limit, with_namespace, without_namespace}
+use Rattle.snap_call.specs.Reached.{is_swept}
+use Rattle.snap_call.specs.Step.{must, must_not, tested, refused, one, unless_refused, slot_for, prepared, viewed, commit_as, removed_at, leasing, spacing}
+
+-- a commit, by what is given with it
+abbrev pub commit : State → ℕ → Bytes → Option Bytes → Option (List Label) → Given → State × Reply
+commit s slot name lease labels (Layer layer) = commit_as s slot name lease labels layer (active_at slot s.records)
+commit s slot name lease labels given = refused s BadArgument
+
+-- a record of a page
+abbrev pub is_walked : ℕ → Bytes → Filter → Record → Bool
+is_walked place after asked r = (r.namespace == place) && is_lt (slice_cmp nat_cmp after r.key) && is_match (info_of r) asked
+
+-- a snapshot of this key is one of the record's committed ancestors
+abbrev pub is_ancestor : List Record → Bytes → Record → Bool
+is_ancestor rs key r = list_any (λ t. bytes_eq t.key key) (ancestors r.namespace r.parent rs)
+
+-- the records that a sweep leaves
+abbrev pub unswept : State → Bytes → ℕ → ℕ → List Record
+unswept s namespace place moment = filter (λ r. not (is_swept s namespace place moment r)) s.records
+
+-- the state with another limit of the namespace at the place
+abbrev pub limited_at : State → ℕ → Usage → State
+limited_at s place limit = spacing s (with_limit place limit s.namespaces)
 
 -- a prepare and a view, at the place of the namespace
 abbrev pub prepare_at : State → Bytes → Bytes → List Label → ℕ → State × Reply

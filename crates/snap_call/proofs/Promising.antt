@@ -4,4 +4,4 @@ use Rattle.snap_call.specs.Good.{Good}
 use Rattle.snap_call.specs.Promised.{Promised}
 
 pub good_promised : (s : State) → Good s → Promised s
-good_promised s good = record { parents = good.parents; leased = good.leased; counted = good.counted; within = good.within; chains = good.chains }
+good_promised s good = good.promised

@@ -8,12 +8,13 @@ use Rattle.snap_record.specs.declared.record.Record.{Record}
 use Rattle.snap_call.specs.declared.state.State.{State}
 use Rattle.snap_call.specs.Records.{is_named, record_at, committed_at}
 use Rattle.snap_call.specs.State.{ancestors, most_ancestors}
-use Rattle.snap_call.specs.Reached.{is_in_use, is_ancestor, is_reached}
+use Rattle.snap_call.specs.Reached.{is_in_use, is_reached}
 use Rattle.snap_call.specs.Good.{Good}
 use Rattle.snap_call.proofs.Lists.{some_same, find-passes, find-all, found-any, any-found, committed_at-record_at}
 use Rattle.snap_call.proofs.InOrder.{own_found}
 use Rattle.snap_call.proofs.Chains.{chain, OnParent, on_parent-map, KeyOf, IsLink, ancestors-head, ancestors-links}
 use Rattle.snap_call.proofs.Keeping.{good_chains}
+use Rattle.snap_call.proofs.Parts.{is_ancestor}
 
 -- the reached keys, as a set
 abbrev pub IsReached : State → Bytes → ℕ → ℕ → ℕ → Bytes → Type 0

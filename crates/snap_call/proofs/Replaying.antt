@@ -1,4 +1,4 @@
--- The entries of a journal are counted, and a journal with one entry more.
+-- What one call does and a journal with it, the entries of a journal, and a journal with one entry more.
 use Rattle.std.proofs.Common.{◌≡◌, ◌≢◌, ℕ, ◌+◌, ◌<◌, List, [], ◌∷◌, ◌++◌, length, Bool, true, false, eq-eqb, refl, sym, ap, ◌∙◌, subst, ⊎_elim, arith}
 use Rattle.std.proofs.lemmas.Bool.Decides.{eqb_tells, nat_tests}
 use Rattle.std.specs.Prelude.{◌==◌, nat_lt}
@@ -13,6 +13,12 @@ use Rattle.snap_call.specs.Step.{step, IsAllowed}
 use Rattle.snap_call.specs.Steps.{session}
 use Rattle.snap_call.specs.Journal.{Replays, session_entries}
 use Rattle.snap_call.proofs.Stepping.{opened, stepped}
+
+-- what holds of no calls, and of one more before others, holds of a whole journal
+pub Replays-over : (R : State → List Entry → State → Type 0) → ((s : State) → R s [] s) → ((s : State) (e : Entry) (es : List Entry) (t : State) → IsAllowed s e.call e.given → R (step s e.call e.given).0 es t → R s (e ∷ es) t)
+    → (s : State) (j : List Entry) (t : State) → Replays s j t → R s j t
+Replays-over R none more s [] t h = subst (R s []) (sym h) (none s)
+Replays-over R none more s (e ∷ es) t h = more s e es t h.0 (Replays-over R none more (step s e.call e.given).0 es t h.2)
 
 -- a session, where one is left
 opening : (s : State) → s.sessions < max_sessions → (session s).0.entries ≡ s.entries + 1
@@ -29,11 +35,7 @@ step-entries s call given allowed =
 
 -- over a whole journal
 pub Replays-entries : (s : State) (j : List Entry) (t : State) → Replays s j t → t.entries ≡ s.entries + length j
-Replays-entries s [] t h = let same : t.entries ≡ s.entries = ap (λ (u : State). u.entries) h in omega arith
-Replays-entries s (e ∷ es) t h =
-    let here = step-entries s e.call e.given h.0 in
-    let rest = Replays-entries (step s e.call e.given).0 es t h.2 in
-    omega arith
+Replays-entries = Replays-over (λ s j t. t.entries ≡ s.entries + length j) (λ s. omega arith) (λ s e es t allowed rest. omega (arith, rest, step-entries s e.call e.given allowed))
 
 -- a journal with one entry more
 pub replays_push : (s : State) (j : List Entry) (t : State) (e : Entry) → Replays s j t → IsAllowed t e.call e.given → e.reply ≡ (step t e.call e.given).1 → Replays s (j ++ e ∷ []) (step t e.call e.given).0

@@ -13,7 +13,7 @@ use Rattle.snap_record.specs.Labels.{Bytes}
 use Rattle.snap_call.specs.declared.config.Namespace.{Namespace}
 use Rattle.snap_call.specs.declared.state.State.{State}
 use Rattle.snap_call.specs.Forms.{have_distinct_names, is_limit, is_namespace, is_text}
-use Rattle.snap_call.specs.Good.{IsGuarding, Good}
+use Rattle.snap_call.specs.Good.{Good}
 use Rattle.snap_call.specs.Records.{charge_of, has_records}
 use Rattle.snap_call.specs.State.{is_taken, is_taken_at, limit_at, place_of, with_namespace, without_namespace}
 use Rattle.snap_call.specs.Step.{spacing}
@@ -22,6 +22,7 @@ use Rattle.snap_call.proofs.Leasing.{name_at-place, place_of-taken}
 use Rattle.snap_call.proofs.Lists.{all-map, all-both, none-passes}
 use Rattle.snap_call.proofs.Naming.{all-with, all-without_namespace, distinct-with, distinct-without, free-untaken, free_place, length-without_namespace, limit_at-with_other, limit_at-with_own, limit_at-without_other, limited-without_own, place_of-with, place_of-without, taken-with, taken-without}
 use Rattle.snap_call.proofs.Sums.{charge_of-elsewhere}
+use Rattle.snap_call.specs.Promised.{IsGuarding}
 
 -- what is true of the namespaces and of what stands on them
 good_spacing : (s : State) (ns : List Namespace) → Good s → AllByRecursion (IsGuarding ns s.records) s.leases → ((place : ℕ) → place < length ns → Covers (limit_at place ns) (charge_of place s.records))
@@ -29,11 +30,14 @@ good_spacing : (s : State) (ns : List Namespace) → Good s → AllByRecursion (
     → AllByRecursion (λ r. is_taken_at r.namespace ns ≡ true) s.records → Good (spacing s ns)
 good_spacing s ns good leased within limits short distinct placed = record {
   root = good.root;
-  parents = good.parents;
-  leased = leased;
+  promised = record {
+    parents = good.promised.parents;
+    leased = leased;
+    counted = good.promised.counted;
+    within = within;
+    chains = good.promised.chains;
+  };
   named_once = good.named_once;
-  counted = good.counted;
-  within = within;
   limits = limits;
   short = short;
   distinct = distinct;
@@ -48,7 +52,6 @@ good_spacing s ns good leased within limits short distinct placed = record {
   shown = good.shown;
   layers = good.layers;
   most = good.most;
-  chains = good.chains;
 }
 
 covers_nothing : (limit charge : Usage) → charge ≡ no_usage → Covers limit charge
@@ -91,10 +94,10 @@ module _ (s : State) (n : Namespace) (good : Good s) (formed : is_namespace n �
 
   pub good_namespace : Good (spacing s (with_namespace n s.namespaces))
   good_namespace =
-      good_spacing s ts good (all-map (IsGuarding ns s.records) (IsGuarding ts s.records) guarded s.leases good.leased)
+      good_spacing s ts good (all-map (IsGuarding ns s.records) (IsGuarding ts s.records) guarded s.leases good.promised.leased)
       (λ place low. elim (cases_eq place (free_place ns)) [
         | inl same ↦ covers_nothing (limit_at place ts) (charge_of place s.records) (ap (λ p. charge_of p s.records) same ∙ bare)
-        | inr other ↦ (let h = limit_at-with_other place n ns other low in subst (λ (u : Usage). Covers u (charge_of place s.records)) (sym h.1) (good.within place h.0))
+        | inr other ↦ (let h = limit_at-with_other place n ns other low in subst (λ (u : Usage). Covers u (charge_of place s.records)) (sym h.1) (good.promised.within place h.0))
       ])
       (λ place low. elim (cases_eq place (free_place ns)) [
         | inl same ↦ ap is_limit (ap (λ p. limit_at p ts) same ∙ limit_at-with_own n ns) ∙ parts.2
@@ -139,10 +142,10 @@ module _ (s : State) (namespace : Bytes) (place : ℕ) (good : Good s) (named : 
   good_removed_namespace =
       good_spacing s left good
       (all-map (λ l. (is_of namespace l ≡ false) × IsGuarding old s.records l) (IsGuarding left s.records) (λ l h. still l h.0 h.1) s.leases
-      (all-both (λ l. is_of namespace l ≡ false) (IsGuarding old s.records) s.leases (none-passes (is_of namespace) s.leases gone.1) good.leased))
+      (all-both (λ l. is_of namespace l ≡ false) (IsGuarding old s.records) s.leases (none-passes (is_of namespace) s.leases gone.1) good.promised.leased))
       (λ p low. elim (cases_eq p place) [
         | inl same ↦ covers_nothing (limit_at p left) (charge_of p s.records) (ap (λ q. charge_of q s.records) same ∙ uncharged)
-        | inr other ↦ subst (λ (u : Usage). Covers u (charge_of p s.records)) (sym (limit_at-without_other p place old other)) (good.within p (subst (λ (m : ℕ). p < m) (length-without_namespace place old) low))
+        | inr other ↦ subst (λ (u : Usage). Covers u (charge_of p s.records)) (sym (limit_at-without_other p place old other)) (good.promised.within p (subst (λ (m : ℕ). p < m) (length-without_namespace place old) low))
       ])
       (λ p low. elim (cases_eq p place) [
         | inl same ↦ subst (λ q. is_limit (limit_at q left) ≡ true) (sym same) (limited-without_own place old)

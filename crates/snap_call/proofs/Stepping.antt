@@ -25,9 +25,9 @@ use Rattle.snap_call.specs.declared.state.State.{State}
 use Rattle.snap_call.specs.Forms.{is_key, is_limit, is_namespace, is_page, is_start}
 use Rattle.snap_call.specs.Records.{record_at, has_key, has_records, has_children, is_active, is_committed, active_at, charge_of}
 use Rattle.snap_call.specs.State.{is_taken, most_namespaces, place_of}
-use Rattle.snap_call.specs.Step.{are_formed, refused, prepared, prepare, granted, charge, trim, commit_as, commit, discard, ask, step, place_for, slot_for, unless_refused, mounts, prepare_view, update_record, in_namespace, has_named, sweep_at, at_record}
+use Rattle.snap_call.specs.Step.{are_formed, refused, prepared, prepare, granted, charge, trim, commit_as, discard, ask, step, place_for, slot_for, unless_refused, mounts, prepare_view, update_record, in_namespace, has_named, sweep_at, at_record}
 use Rattle.snap_call.specs.Steps.{session, remove, update, walk_infos, set_limit, namespace_create, namespace_remove, lease_create, lease_add, lease_drop, lease_release}
-use Rattle.snap_call.proofs.Parts.{prepare_at, charge_to, view_at, remove_record, set_limit_at, namespace_remove_at, lease_add_record, lease_drop_at}
+use Rattle.snap_call.proofs.Parts.{prepare_at, charge_to, view_at, remove_record, set_limit_at, namespace_remove_at, lease_add_record, lease_drop_at, commit}
 
 -- a session is counted where one is left
 abbrev pub opened : State → Bool → State × Reply

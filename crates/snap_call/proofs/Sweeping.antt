@@ -20,8 +20,8 @@ use Rattle.snap_call.specs.declared.refusal.Refusal.TheVariants.{NoNamespace}
 use Rattle.snap_call.specs.declared.state.State.{State}
 use Rattle.snap_call.specs.Records.{is_named, is_active, is_committed, has_slot, is_slot, record_at, active_at, committed_at, charge_of, charge_at, open_count, HasLowSlot, AreApart}
 use Rattle.snap_call.specs.State.{place_of, limit_at, is_taken_at, ancestors, most_ancestors}
-use Rattle.snap_call.specs.Reached.{is_ancestor, is_reached, is_swept, swept, unswept}
-use Rattle.snap_call.specs.Good.{IsGuarding, IsUsageCounted, IsShown, Good}
+use Rattle.snap_call.specs.Reached.{is_reached, is_swept, swept}
+use Rattle.snap_call.specs.Good.{IsShown, Good}
 use Rattle.snap_call.specs.Step.{refused, swept_at, sweep_at, sweep}
 use Rattle.snap_call.proofs.Lengths.{length-filtered}
 use Rattle.snap_call.proofs.Lists.{all-each, all-map, all-both, all-any, all-kept, pairwise-filter, find-all, find-filter, find-passes, committed-parts, committed-from}
@@ -32,6 +32,8 @@ use Rattle.snap_call.proofs.Counts.{open_count-filter}
 use Rattle.snap_call.proofs.Slots.{active_at-filter, charge_at-filter}
 use Rattle.snap_call.proofs.Reaching.{IsReached, reached_by, reached-above, root-above}
 use Rattle.snap_call.proofs.Keeping.{AreNamed, all_deep, chains_on, covers_gone, good_chains, good_counted, leases_on, parents_on, place_of-below, same_name, shown_on, within_after}
+use Rattle.snap_call.proofs.Parts.{is_ancestor, unswept}
+use Rattle.snap_call.specs.Promised.{IsGuarding, IsUsageCounted}
 
 -- the keys of other namespaces, and those of this one that are reached
 abbrev pub Stays : State → Bytes → ℕ → ℕ → ℕ → Bytes → Type 0
@@ -169,7 +171,7 @@ module _ (s : State) (namespace : Bytes) (place moment : ℕ) where
         (λ r e is. on_unswept (is_named r.namespace r.key) r e (not_true (is_swept s namespace place moment r) is)) s.records (own_found s.records good.sorted))
 
     chained : AllByRecursion (λ r. IsSome (chain s.ancestors s.records r)) (unswept s namespace place moment)
-    chained = all-filter (λ r. IsSome (chain s.ancestors s.records r)) stays s.records good.chains
+    chained = all-filter (λ r. IsSome (chain s.ancestors s.records r)) stays s.records good.promised.chains
 
     -- the ancestors of a snapshot that stays are the same
     pub swept-ancestors : (p : Record → Bool) (r : Record) → find p s.records ≡ Some r → is_swept s namespace place moment r ≡ false
@@ -233,21 +235,24 @@ module _ (s : State) (namespace : Bytes) (place moment : ℕ) where
           all-kept (λ l. not (has_ended namespace moment l)) (AreNamed (Stays s namespace place moment) s.namespaces) s.leases
           (all-map (λ l. IsGuarding s.namespaces s.records l × ((p : Lease → Bool) → p l ≡ true → list_any p s.leases ≡ true)) (λ l. not (has_ended namespace moment l) ≡ true → AreNamed (Stays s namespace place moment) s.namespaces l)
           (λ l h is. lease_stays l h.0 h.1 (not_true (has_ended namespace moment l) is))
-          s.leases (all-both (IsGuarding s.namespaces s.records) (λ l. (p : Lease → Bool) → p l ≡ true → list_any p s.leases ≡ true) s.leases good.leased (all-any s.leases)))
+          s.leases (all-both (IsGuarding s.namespaces s.records) (λ l. (p : Lease → Bool) → p l ≡ true → list_any p s.leases ≡ true) s.leases good.promised.leased (all-any s.leases)))
 
       -- ---- the state after it
 
       pub good_swept : Good (swept_at s namespace place moment)
       good_swept = record {
         root = good.root;
-        parents = parents_on P rs ts keeps ts on (all-filter (HasParent rs) stays rs good.parents);
-        leased = leases_on P rs ts keeps ns ls all_leases (all-filter (IsGuarding ns rs) (λ l. not (has_ended namespace moment l)) s.leases good.leased);
+        promised = record {
+          parents = parents_on P rs ts keeps ts on (all-filter (HasParent rs) stays rs good.promised.parents);
+          leased = leases_on P rs ts keeps ns ls all_leases (all-filter (IsGuarding ns rs) (λ l. not (has_ended namespace moment l)) s.leases good.promised.leased);
+          counted = all-filter (λ t. IsUsageCounted t.content) stays rs good.promised.counted;
+          within = within_after ns rs ts place good.promised.within
+              (subst (λ (u : Usage). Covers (limit_at place ns) u) (sym swept_total)
+              (covers_gone (limit_at place ns) (charge_of place rs) (charge_of place (swept s namespace place moment)) (good.promised.within place (place_of-below namespace ns place spaced))))
+              swept_others;
+          chains = chains_on P rs ts keeps s.ancestors ts on chained;
+        };
         named_once = all-filter NamesOnce (λ l. not (has_ended namespace moment l)) s.leases good.named_once;
-        counted = all-filter (λ t. IsUsageCounted t.content) stays rs good.counted;
-        within = within_after ns rs ts place good.within
-            (subst (λ (u : Usage). Covers (limit_at place ns) u) (sym swept_total)
-            (covers_gone (limit_at place ns) (charge_of place rs) (charge_of place (swept s namespace place moment)) (good.within place (place_of-below namespace ns place spaced))))
-            swept_others;
         limits = good.limits;
         short = good.short;
         distinct = good.distinct;
@@ -262,7 +267,6 @@ module _ (s : State) (namespace : Bytes) (place moment : ℕ) where
         shown = shown_on P rs ts keeps ts on (all_deep s good ts chained) (all-filter (λ t. IsShown rs t.namespace t.parent t.content) stays rs good.shown);
         layers = good.layers;
         most = good.most;
-        chains = chains_on P rs ts keeps s.ancestors ts on chained;
       }
         where
           P : ℕ → Bytes → Type 0

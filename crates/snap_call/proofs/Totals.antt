@@ -8,9 +8,9 @@ use Rattle.snap_record.specs.Records.{usage_of}
 use Rattle.snap_record.specs.declared.record.Content.{Content}
 use Rattle.snap_record.specs.declared.record.Content.TheVariants.{View, Active, Committed}
 use Rattle.snap_record.specs.declared.record.Record.{Record}
-use Rattle.snap_call.specs.Good.{IsUsageCounted}
 use Rattle.snap_call.specs.Records.{charge_of, sum_of}
 use Rattle.snap_call.specs.Totals.{usage_taken}
+use Rattle.snap_call.specs.Promised.{IsUsageCounted}
 
 same_taken : (c : Content) → IsUsageCounted c → usage_of c ≡ usage_taken c
 same_taken (View layers) h = refl

@@ -1,5 +1,5 @@
 -- The forms that texts, limits and configurations must have.
-use Rattle.std.specs.Prelude.{ℕ, ◌==◌, Bool, true, not, ◌&&◌, nat_le, List, [], ◌∷◌, length, Option, find}
+use Rattle.std.specs.Prelude.{ℕ, ◌==◌, Bool, true, not, ◌&&◌, ◌||◌, nat_le, List, [], ◌∷◌, length, bytes_eq, Option, find}
 use Rattle.std.specs.List.{list_any, list_all}
 use Rattle.snap_layer.specs.Counts.{most_inodes}
 use Rattle.snap_usage.specs.declared.usage.Usage.{Usage}
@@ -22,8 +22,7 @@ is_key bs = is_text 1024 bs
 
 -- a parent: the empty text, which stands for none, or a key
 abbrev pub is_parent : Bytes → Bool
-is_parent [] = true
-is_parent (b ∷ bs) = is_key (b ∷ bs)
+is_parent bs = bytes_eq bs [] || is_key bs
 
 -- the size of a page: 1 to 64 infos
 abbrev pub is_page : ℕ → Bool

@@ -1,28 +1,18 @@
 -- What is true of the state whenever no call is under way.
-use Rattle.std.specs.Prelude.{◌≡◌, ◌≢◌, ℕ, ◌<◌, ◌≤◌, true, List, IsSome, IsSomeAnd, length}
+use Rattle.std.specs.Prelude.{◌≡◌, ◌≢◌, ℕ, ◌<◌, ◌≤◌, true, List, length}
 use Rattle.std.specs.List.{AllByRecursion}
 use Rattle.std.specs.List.Sorted.{IsStrictlySortedBy}
-use Rattle.snap_usage.specs.Counted.{count_of, Covers}
-use Rattle.snap_lease.specs.Lease.{Lease, NamesOnce}
+use Rattle.snap_lease.specs.Lease.{NamesOnce}
 use Rattle.snap_record.specs.Labels.{Bytes}
 use Rattle.snap_record.specs.declared.record.Content.{Content}
-use Rattle.snap_record.specs.declared.record.Content.TheVariants.{View, Committed}
+use Rattle.snap_record.specs.declared.record.Content.TheVariants.{View}
 use Rattle.snap_record.specs.declared.record.Record.{Record}
 use Rattle.snap_mount.specs.Mounts.{is_root_text}
-use Rattle.snap_call.specs.declared.config.Namespace.{Namespace}
 use Rattle.snap_call.specs.declared.state.State.{State}
 use Rattle.snap_call.specs.Forms.{is_limit, is_layer_limit, is_ancestor_limit, have_distinct_names}
-use Rattle.snap_call.specs.Records.{record_cmp, committed_at, charge_of, AllPairwise, AreApart, HasLowSlot, max_slots}
-use Rattle.snap_call.specs.State.{place_of, limit_at, is_taken_at, chain_from, is_base, shown_layers}
-
--- each snapshot that the lease names is a committed one of the lease's namespace
-abbrev pub IsGuarding : List Namespace → List Record → Lease → Type 0
-IsGuarding ns rs l = IsSomeAnd (place_of l.namespace ns) (λ place. AllByRecursion (λ name. IsSome (committed_at place name rs)) l.names)
-
--- a committed snapshot's stored usage is the count over its layer
-abbrev pub IsUsageCounted : Content → Type 0
-IsUsageCounted (Committed layer usage) = usage ≡ count_of layer
-IsUsageCounted content = Unit {0}
+use Rattle.snap_call.specs.Records.{record_cmp, AllPairwise, AreApart, HasLowSlot, max_slots}
+use Rattle.snap_call.specs.Promised.{Promised}
+use Rattle.snap_call.specs.State.{limit_at, is_taken_at, shown_layers}
 
 -- a view's layers are those of its committed ancestors, or one empty layer
 abbrev pub IsShown : List Record → ℕ → Bytes → Content → Type 0
@@ -37,16 +27,11 @@ HasShortNames s = AllByRecursion (λ n. length n.name ≤ 255) s.namespaces
 pub record Good (s : State) : Type 0 where
   -- the root can be the directory that all snapshots lie in
   pub root : is_root_text s.root ≡ true
-  -- each parent is a committed snapshot of the same namespace
-  pub parents : AllByRecursion (λ r. is_base r.namespace r.parent s.records ≡ true) s.records
-  -- each snapshot that a lease names is a committed one
-  pub leased : AllByRecursion (IsGuarding s.namespaces s.records) s.leases
+  -- each parent, lease, count, charge and chain is as a store promises
+  pub promised : Promised s
   -- a lease names each snapshot once
   pub named_once : AllByRecursion NamesOnce s.leases
-  -- each stored usage is the count over the stored layer
-  pub counted : AllByRecursion (λ r. IsUsageCounted r.content) s.records
-  -- each namespace is charged within its limit, which is at most 2^40 of each quantity
-  pub within : (place : ℕ) → place < length s.namespaces → Covers (limit_at place s.namespaces) (charge_of place s.records)
+  -- each namespace's limit is at most 2^40 of each quantity
   pub limits : (place : ℕ) → place < length s.namespaces → is_limit (limit_at place s.namespaces) ≡ true
   -- each namespace's name has at most 255 bytes
   pub short : HasShortNames s
@@ -67,8 +52,6 @@ pub record Good (s : State) : Type 0 where
   pub open_slots : AllByRecursion (λ r. HasLowSlot s.slots r.content) s.records
   -- each view keeps the layers that it shows
   pub shown : AllByRecursion (λ r. IsShown s.records r.namespace r.parent r.content) s.records
-  -- each snapshot has a chain of committed ancestors, no more than the store allows
-  pub chains : AllByRecursion (λ r. IsSome (chain_from s.ancestors s.records r.namespace r.parent)) s.records
   -- the most inodes of a layer are 1 to 2^24
   pub layers : is_layer_limit s.layer_inodes ≡ true
   -- the most committed ancestors are 1 to 500

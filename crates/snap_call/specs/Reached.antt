@@ -1,5 +1,5 @@
 -- Which snapshots a sweep takes away: the committed ones that nothing in use stands on (mark and sweep, as containerd's garbage collection of what no lease keeps).
-use Rattle.std.specs.Prelude.{ℕ, ◌==◌, Bool, not, ◌&&◌, ◌||◌, List, map, filter, bytes_eq}
+use Rattle.std.specs.Prelude.{ℕ, ◌==◌, Bool, not, ◌&&◌, ◌||◌, List, ◌∷◌, map, filter, bytes_eq}
 use Rattle.std.specs.List.{list_any}
 use Rattle.snap_lease.specs.Leases.{is_guarded_at}
 use Rattle.snap_record.specs.Labels.{Bytes}
@@ -12,13 +12,9 @@ use Rattle.snap_call.specs.State.{ancestors}
 abbrev pub is_in_use : State → Bytes → ℕ → Record → Bool
 is_in_use s namespace moment r = not (is_committed r.content) || is_guarded_at s.leases namespace r.key moment
 
--- a snapshot of this key is one of the record's committed ancestors
-abbrev pub is_ancestor : List Record → Bytes → Record → Bool
-is_ancestor rs key r = list_any (λ t. bytes_eq t.key key) (ancestors r.namespace r.parent rs)
-
 -- the snapshot of this key in the namespace is in use, or is an ancestor of one that is
 abbrev pub is_reached : State → Bytes → ℕ → ℕ → Bytes → Bool
-is_reached s namespace place moment key = list_any (λ r. (r.namespace == place) && is_in_use s namespace moment r && (bytes_eq r.key key || is_ancestor s.records key r)) s.records
+is_reached s namespace place moment key = list_any (λ r. (r.namespace == place) && is_in_use s namespace moment r && list_any (λ t. bytes_eq t.key key) (r ∷ ancestors r.namespace r.parent s.records)) s.records
 
 -- a sweep takes the snapshot away: it is a committed one of the namespace, and is not reached
 abbrev pub is_swept : State → Bytes → ℕ → ℕ → Record → Bool
@@ -31,7 +27,3 @@ swept s namespace place moment = filter (is_swept s namespace place moment) s.re
 -- their keys
 abbrev pub swept_keys : State → Bytes → ℕ → ℕ → List Bytes
 swept_keys s namespace place moment = map (λ r. r.key) (swept s namespace place moment)
-
--- the snapshots that stay
-abbrev pub unswept : State → Bytes → ℕ → ℕ → List Record
-unswept s namespace place moment = filter (λ r. not (is_swept s namespace place moment r)) s.records

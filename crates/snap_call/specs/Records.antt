@@ -137,13 +137,9 @@ abbrev pub relabelled : ℕ → Bytes → List Label → ℕ → List Record →
 relabelled place key labels number [] = []
 relabelled place key labels number (r ∷ rs) = if is_named place key r then with_labels labels number r ∷ rs else r ∷ relabelled place key labels number rs
 
--- a record of the namespace at the place, whose key comes after this text, and that has every part of the filter
-abbrev pub is_walked : ℕ → Bytes → Filter → Record → Bool
-is_walked place after asked r = (r.namespace == place) && is_lt (slice_cmp nat_cmp after r.key) && is_match (info_of r) asked
-
--- the infos of the first so many of these, in the order of their keys
+-- the infos of the first so many records of the namespace at the place whose key comes after this text, and that have every part of the filter, in the order of their keys
 abbrev pub info_page : ℕ → Bytes → ℕ → Filter → List Record → List Info
-info_page place after most asked rs = map info_of (take most (filter (is_walked place after asked) rs))
+info_page place after most asked rs = map info_of (take most (filter (λ r. (r.namespace == place) && is_lt (slice_cmp nat_cmp after r.key) && is_match (info_of r) asked) rs))
 
 -- a record as it is once it is committed under a name, by the entry of this number: with the labels that are given, or with its own
 abbrev pub committed_as : Bytes → Option (List Label) → Tree → ℕ → Record → Record

@@ -1,9 +1,8 @@
 -- The state of a store.
-use Rattle.std.specs.Prelude.{ℕ, zero, suc, Bool, true, List, [], ◌∷◌, Option, None, Some, option_and_then, unwrap_or, map, filter_map, not}
+use Rattle.std.specs.Prelude.{ℕ, zero, suc, ◌-◌, Bool, ◌||◌, List, [], ◌∷◌, Option, None, Some, option_and_then, unwrap_or, map, filter_map, bytes_eq, not}
 use Rattle.std.specs.Option.{option_map, is_some}
 use Rattle.snap_layer.specs.Edits.{root_only}
 use Rattle.snap_layer.specs.Tree.{Tree}
-use Rattle.snap_ledger.specs.States.{minus}
 use Rattle.snap_record.specs.Labels.{Bytes}
 use Rattle.snap_record.specs.declared.record.Content.{Content}
 use Rattle.snap_record.specs.declared.record.Content.TheVariants.{Committed}
@@ -22,9 +21,7 @@ opening c = record { root = c.root; namespaces = c.namespaces; slots = c.slots; 
 
 -- the refusal of an amount that the limit doesn't cover, with what is free: the limit less the charge
 abbrev pub over_limit : State → ℕ → Refusal
-over_limit s place =
-    let free = minus (limit_at place s.namespaces) (charge_of place s.records) in
-    OverLimit free.blocks free.inodes
+over_limit s place = OverLimit ((limit_at place s.namespaces).blocks - (charge_of place s.records).blocks) ((limit_at place s.namespaces).inodes - (charge_of place s.records).inodes)
 
 -- the committed records from a parent upwards, nearest first; nothing where one is missing or isn't committed, or where there are more than so many
 abbrev pub chain_from : ℕ → List Record → ℕ → Bytes → Option (List Record)
@@ -36,13 +33,11 @@ chain_from (suc n) rs place (b ∷ bs) = option_and_then (λ r. option_map (λ a
 
 -- none is given, or the namespace has a snapshot of this key
 abbrev pub is_present : ℕ → Bytes → List Record → Bool
-is_present place [] rs = true
-is_present place (b ∷ bs) rs = has_key place (b ∷ bs) rs
+is_present place parent rs = bytes_eq parent [] || has_key place parent rs
 
 -- none is given, or the namespace has a committed snapshot of this name
 abbrev pub is_base : ℕ → Bytes → List Record → Bool
-is_base place [] rs = true
-is_base place (b ∷ bs) rs = is_some (committed_at place (b ∷ bs) rs)
+is_base place parent rs = bytes_eq parent [] || is_some (committed_at place parent rs)
 
 -- a snapshot on it would have more committed ancestors than so many
 abbrev pub is_too_deep : ℕ → ℕ → Bytes → List Record → Bool
@@ -67,7 +62,7 @@ layers_of rs = filter_map (λ r. layer_of r.content) rs
 
 -- these layers; where there are none, one empty layer, whose root has the permission bits 755 in octal
 abbrev pub or_empty : List Tree → List Tree
-or_empty [] = root_only 493 1 ∷ []
+or_empty [] = root_only (record { mode = 493 }) 1 ∷ []
 or_empty layers = layers
 
 -- what a view on the parent shows: the layers of its committed ancestors, nearest first

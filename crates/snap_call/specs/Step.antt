@@ -1,5 +1,5 @@
 -- What one call answers, and the state after it. The refusals of each call stand in the order in which they are tested.
-use Rattle.std.specs.Prelude.{◌≡◌, ℕ, ◌+◌, ◌<◌, Bool, true, ◌&&◌, ◌||◌, nat_le, nat_lt, if◌then◌else◌, List, [], ◌∷◌, ◌++◌, count_by, Option, None, Some, IsSomeAnd, max, Result, Ok, Err}
+use Rattle.std.specs.Prelude.{◌≡◌, ℕ, ◌+◌, ◌<◌, Bool, true, ◌&&◌, ◌||◌, nat_le, nat_lt, if◌then◌else◌, List, [], ◌∷◌, ◌++◌, count_by, find, filter, not, Option, IsSomeAnd, max, Result, Ok, Err}
 use Rattle.std.specs.Option.{option_map_or, is_some}
 use Rattle.snap_path.specs.Limits.{most_number}
 use Rattle.snap_layer.specs.Tree.{Tree}
@@ -28,7 +28,7 @@ use Rattle.snap_call.specs.declared.state.State.{State}
 use Rattle.snap_call.specs.Forms.{is_key, is_namespace, is_parent, is_page, is_start, is_limit}
 use Rattle.snap_call.specs.Records.{record_at, has_key, has_records, has_children, is_active, is_committed, active_at, charge_of, with_record, without_slot, without_key, recharged, relabelled, with_labels, info_page, committed_as, lowest_free, max_sessions}
 use Rattle.snap_call.specs.State.{place_of, name_at, limit_at, with_limit, with_namespace, without_namespace, is_taken, most_namespaces, over_limit, is_present, is_base, is_too_deep, ancestors, ids_of, shown_layers}
-use Rattle.snap_call.specs.Reached.{swept, swept_keys, unswept}
+use Rattle.snap_call.specs.Reached.{is_swept, swept, swept_keys}
 
 -- one entry more
 abbrev pub counted : State → State
@@ -48,6 +48,10 @@ abbrev pub tested : {X : Type 0} → (Refusal → X) → List Test → X → X
 tested by [] next = next
 tested by (must holds why ∷ later) next = if holds then tested by later next else by why
 tested by (must_not holds why ∷ later) next = if holds then by why else tested by later next
+
+-- what follows where the fields of a call have their form
+abbrev pub formed : State → Bool → State × Reply → State × Reply
+formed s holds next = tested (refused s) (must holds BadArgument ∷ []) next
 
 -- what follows at the place of a namespace, or the refusal of one that the store doesn't have
 abbrev pub in_namespace : State → Bytes → (ℕ → State × Reply) → State × Reply
@@ -112,21 +116,16 @@ fits_limit s place held to = covers (limit_at place s.namespaces) (plus (minus (
 
 -- the wanted amount where the limit covers it, else the needed one where the limit covers that
 abbrev pub granted : State → ℕ → Usage → Usage → Usage → Option Usage
-granted s place held need want =
-    let needed = greater held need in
-    let wanted = greater needed want in
-    if fits_limit s place held wanted then Some wanted else if fits_limit s place held needed then Some needed else None
+granted s place held need want = find (fits_limit s place held) (greater (greater held need) want ∷ greater held need ∷ [])
 
 abbrev pub charge : State → ℕ → Usage → Usage → Option Record → State × Reply
-charge s slot need want (Some r) =
-    option_map_or (λ to. (record s { records = recharged slot to s.records; entries = s.entries + 1 }, Charged to)) (granted s r.namespace (usage_of r.content) need want) (refused s (over_limit s r.namespace))
-charge s slot need want None = refused s NotActive
+charge s slot need want o = option_map_or (λ r.
+    option_map_or (λ to. (record s { records = recharged slot to s.records; entries = s.entries + 1 }, Charged to)) (granted s r.namespace (usage_of r.content) need want) (refused s (over_limit s r.namespace))) o (refused s NotActive)
 
 -- Trim: charged for the count of its layer
 abbrev pub trim : State → ℕ → Given → Option Record → State × Reply
-trim s slot (Count now) (Some r) = (record s { records = recharged slot now s.records; entries = s.entries + 1 }, Trimmed)
-trim s slot (Count now) None = refused s NotActive
-trim s slot given r = refused s BadArgument
+trim s slot (Count now) o = option_map_or (λ r. (record s { records = recharged slot now s.records; entries = s.entries + 1 }, Trimmed)) o (refused s NotActive)
+trim s slot given o = refused s BadArgument
 
 -- Commit: the active snapshot gives way to a committed one with the layer and its count; the lease, where one is named, gets the name, and labels that are given stand in place of its own (containerd's Snapshotter.Commit, under a lease and with labels)
 abbrev pub has_named : State → ℕ → Option Bytes → Bool
@@ -141,22 +140,15 @@ are_formed name lease labels = is_key name && option_map_or is_key lease true &&
 
 abbrev pub committed : State → ℕ → Bytes → Option Bytes → Option (List Label) → Tree → Record → State × Reply
 committed s slot name lease labels layer r =
-    let records = with_record (committed_as name labels layer (s.entries + 1) r) (without_slot slot s.records) in
-    (record s { records = records; leases = leases_after s r.namespace name lease; entries = s.entries + 1 }, Committed r.id (count_of layer))
+    (record s { records = with_record (committed_as name labels layer (s.entries + 1) r) (without_slot slot s.records); leases = leases_after s r.namespace name lease; entries = s.entries + 1 }, Committed r.id (count_of layer))
 
 abbrev pub commit_as : State → ℕ → Bytes → Option Bytes → Option (List Label) → Tree → Option Record → State × Reply
-commit_as s slot name lease labels layer (Some r) =
-    tested (refused s) (must (are_formed name lease labels) BadArgument ∷ must_not (has_key r.namespace name s.records) AlreadyExists ∷ must (has_named s r.namespace lease) NoLease ∷ []) (committed s slot name lease labels layer r)
-commit_as s slot name lease labels layer None = refused s NotActive
-
-abbrev pub commit : State → ℕ → Bytes → Option Bytes → Option (List Label) → Given → State × Reply
-commit s slot name lease labels (Layer layer) = commit_as s slot name lease labels layer (active_at slot s.records)
-commit s slot name lease labels given = refused s BadArgument
+commit_as s slot name lease labels layer o = option_map_or (λ r.
+    tested (refused s) (must (are_formed name lease labels) BadArgument ∷ must_not (has_key r.namespace name s.records) AlreadyExists ∷ must (has_named s r.namespace lease) NoLease ∷ []) (committed s slot name lease labels layer r)) o (refused s NotActive)
 
 -- Discard: the record goes, and what it was charged is answered
 abbrev pub discard : State → ℕ → Option Record → State × Reply
-discard s slot (Some r) = (record s { records = without_slot slot s.records; entries = s.entries + 1 }, Discarded (usage_of r.content))
-discard s slot None = refused s NotActive
+discard s slot o = option_map_or (λ r. (record s { records = without_slot slot s.records; entries = s.entries + 1 }, Discarded (usage_of r.content))) o (refused s NotActive)
 
 -- the state without the snapshot of the key in the namespace at the place
 abbrev pub removed_at : State → ℕ → Bytes → State
@@ -164,7 +156,7 @@ removed_at s place key = record s { records = without_key place key s.records; e
 
 -- Stat, Usage, Mounts: what is asked of a record
 abbrev pub ask : State → (Record → Reply) → Bytes → Bytes → State × Reply
-ask s answer namespace key = tested (refused s) (must (is_key key) BadArgument ∷ []) (at_record s namespace key (λ place r. (counted s, answer r)))
+ask s answer namespace key = formed s (is_key key) (at_record s namespace key (λ place r. (counted s, answer r)))
 
 -- Mounts: the mounts that show a snapshot over its committed ancestors; a committed one is not mounted (containerd's Snapshotter.Mounts)
 abbrev pub mounts : State → Record → Reply
@@ -180,17 +172,13 @@ update_record s key given paths place r =
     let labels = labels_after r.labels given paths in
     tested (refused s) (must (is_granted r.labels given paths) BadArgument ∷ []) (relabelled_at s place key labels, Info (info_of (with_labels labels (s.entries + 1) r)))
 
--- the state with another limit of the namespace at the place
-abbrev pub limited_at : State → ℕ → Usage → State
-limited_at s place limit = record s { namespaces = with_limit place limit s.namespaces; entries = s.entries + 1 }
-
 -- the state with these leases
 abbrev pub leasing : State → List Lease → State
 leasing s leases = record s { leases = leases; entries = s.entries + 1 }
 
 -- Sweep: the namespace's leases that have ended at the moment go, and those of its committed snapshots that are not reached. The reply has the keys of these, how many leases went, and what the snapshots were charged.
 abbrev pub swept_at : State → Bytes → ℕ → ℕ → State
-swept_at s namespace place moment = record s { records = unswept s namespace place moment; leases = without_ended s.leases namespace moment; entries = s.entries + 1 }
+swept_at s namespace place moment = record s { records = filter (λ r. not (is_swept s namespace place moment r)) s.records; leases = without_ended s.leases namespace moment; entries = s.entries + 1 }
 
 abbrev pub sweep_at : State → Bytes → ℕ → ℕ → State × Reply
 sweep_at s namespace moment place =
@@ -210,22 +198,22 @@ step s calls.Session given = if nat_lt s.sessions max_sessions then (record s { 
 step s (calls.Prepare namespace key parent labels) given = prepare s namespace key parent labels
 step s (calls.Charge slot id need want) given = charge s slot need want (active_at slot s.records)
 step s (calls.Trim slot id) given = trim s slot given (active_at slot s.records)
-step s (calls.Commit slot id name lease labels) given = commit s slot name lease labels given
+step s (calls.Commit slot id name lease labels) (Layer layer) = commit_as s slot name lease labels layer (active_at slot s.records)
+step s (calls.Commit slot id name lease labels) given = refused s BadArgument
 step s (calls.Discard slot id) given = discard s slot (active_at slot s.records)
 step s (calls.Stat namespace key) given = ask s (λ r. Info (info_of r)) namespace key
 step s (calls.Usage namespace key) given = ask s (λ r. UsageReply (usage_of r.content)) namespace key
 step s (calls.Mounts namespace key) given = ask s (mounts s) namespace key
 step s (calls.View namespace key parent labels) given = prepare_view s namespace key parent labels
 -- a snapshot goes that is no parent, isn't active and is named by no lease, and what it was charged is answered (containerd's Snapshotter.Remove)
-step s (calls.Remove namespace key) given =
-    tested (refused s) (must (is_key key) BadArgument ∷ []) (at_record s namespace key (λ place r.
+step s (calls.Remove namespace key) given = formed s (is_key key) (at_record s namespace key (λ place r.
     tested (refused s) (must_not (has_children place key s.records) HasChildren ∷ must_not (is_active r.content) InUse ∷ must_not (is_guarded s.leases namespace key) Leased ∷ []) (removed_at s place key, Removed (usage_of r.content))))
-step s (calls.Update namespace key labels paths) given = tested (refused s) (must (is_key key && is_well_formed labels paths) BadArgument ∷ []) (at_record s namespace key (update_record s key labels paths))
+step s (calls.Update namespace key labels paths) given = formed s (is_key key && is_well_formed labels paths) (at_record s namespace key (update_record s key labels paths))
 -- the infos of the snapshots of a namespace that come after a key and have every part of a filter, at most so many (containerd's Snapshotter.Walk, page by page)
-step s (calls.Walk namespace after most asked) given = tested (refused s) (must (is_start after && is_page most) BadArgument ∷ []) (in_namespace s namespace (λ place. (counted s, Page (info_page place after most asked s.records))))
+step s (calls.Walk namespace after most asked) given = formed s (is_start after && is_page most) (in_namespace s namespace (λ place. (counted s, Page (info_page place after most asked s.records))))
 -- a namespace's other limit has to cover what it is charged
-step s (calls.SetLimit namespace limit) given =
-    tested (refused s) (must (is_limit limit) BadArgument ∷ []) (in_namespace s namespace (λ place. tested (refused s) (must (covers limit (charge_of place s.records)) BelowCharge ∷ []) (limited_at s place limit, Done)))
+step s (calls.SetLimit namespace limit) given = formed s (is_limit limit) (in_namespace s namespace (λ place.
+    tested (refused s) (must (covers limit (charge_of place s.records)) BelowCharge ∷ []) (spacing s (with_limit place limit s.namespaces), Done)))
 -- a namespace is made, at the first free place
 step s (calls.NamespaceCreate namespace limit) given =
     let made : Namespace = record { name = namespace; limit = limit } in
@@ -234,19 +222,17 @@ step s (calls.NamespaceCreate namespace limit) given =
 step s (calls.NamespaceRemove namespace) given =
     in_namespace s namespace (λ place. tested (refused s) (must_not (has_records place s.records || has_leases s.leases namespace) NotEmpty ∷ []) (spacing s (without_namespace place s.namespaces), Done))
 -- a lease that names nothing yet, with a last moment or none (containerd's leases.Manager.Create)
-step s (calls.LeaseCreate namespace lease until) given =
-    tested (refused s) (must (is_key lease) BadArgument ∷ []) (in_namespace s namespace (λ place. tested (refused s) (must_not (has_lease s.leases namespace lease) LeaseExists ∷ []) (leasing s (s.leases ++ empty_lease namespace lease until ∷ []), Done)))
+step s (calls.LeaseCreate namespace lease until) given = formed s (is_key lease) (in_namespace s namespace (λ place.
+    tested (refused s) (must_not (has_lease s.leases namespace lease) LeaseExists ∷ []) (leasing s (s.leases ++ empty_lease namespace lease until ∷ []), Done)))
 -- the lease names a committed snapshot too, live or ended (containerd's leases.Manager.AddResource)
-step s (calls.LeaseAdd namespace lease name) given =
-    tested (refused s) (must (is_key lease && is_key name) BadArgument ∷ []) (at_record s namespace name (λ place r.
+step s (calls.LeaseAdd namespace lease name) given = formed s (is_key lease && is_key name) (at_record s namespace name (λ place r.
     tested (refused s) (must (is_committed r.content) NotCommitted ∷ must (has_lease s.leases namespace lease) NoLease ∷ []) (leasing s (with_name_added s.leases namespace lease name), Done)))
 -- the lease names the snapshot no longer (containerd's leases.Manager.DeleteResource)
-step s (calls.LeaseDrop namespace lease name) given =
-    tested (refused s) (must (is_key lease && is_key name) BadArgument ∷ []) (in_namespace s namespace (λ place.
+step s (calls.LeaseDrop namespace lease name) given = formed s (is_key lease && is_key name) (in_namespace s namespace (λ place.
     tested (refused s) (must (has_lease s.leases namespace lease) NoLease ∷ must (lease_names s.leases namespace lease name) NotFound ∷ []) (leasing s (with_name_dropped s.leases namespace lease name), Done)))
 -- the lease goes with its names, and no snapshot does (containerd's leases.Manager.Delete)
-step s (calls.LeaseRelease namespace lease) given =
-    tested (refused s) (must (is_key lease) BadArgument ∷ []) (in_namespace s namespace (λ place. tested (refused s) (must (has_lease s.leases namespace lease) NoLease ∷ []) (leasing s (without_lease s.leases namespace lease), Done)))
+step s (calls.LeaseRelease namespace lease) given = formed s (is_key lease) (in_namespace s namespace (λ place.
+    tested (refused s) (must (has_lease s.leases namespace lease) NoLease ∷ []) (leasing s (without_lease s.leases namespace lease), Done)))
 step s (calls.Sweep namespace moment) given = sweep s namespace moment
 
 -- the slot is open under the id

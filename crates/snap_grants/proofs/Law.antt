@@ -15,8 +15,8 @@ use Rattle.snap_call.specs.declared.reply.Reply.{Reply}
 use Rattle.snap_call.specs.declared.state.State.{State}
 use Rattle.snap_call.specs.Records.{has_key, is_slot, active_at, open_count, without_slot, committed_as}
 use Rattle.snap_call.specs.State.{name_at}
-use Rattle.snap_call.specs.Step.{are_formed, refused, place_for, slot_for, prepared, prepare, has_named, committed, commit_as, commit, step, IsCovered, IsAllowed, new_record, one}
-use Rattle.snap_call.proofs.Parts.{prepare_at}
+use Rattle.snap_call.specs.Step.{are_formed, refused, place_for, slot_for, prepared, prepare, has_named, committed, commit_as, step, IsCovered, IsAllowed, new_record, one}
+use Rattle.snap_call.proofs.Parts.{prepare_at, commit}
 use Rattle.snap_call.specs.Journal.{Replays}
 use Rattle.snap_call.proofs.Leasing.{name_at-place}
 use Rattle.snap_call.proofs.Lists.{all-with_record, all-without}

@@ -14,8 +14,8 @@ use Rattle.snap_call.specs.declared.refusal.Refusal.{Refusal}
 use Rattle.snap_call.specs.declared.reply.Reply.{Reply}
 use Rattle.snap_call.specs.declared.state.State.{State}
 use Rattle.snap_call.specs.Records.{has_key, active_at}
-use Rattle.snap_call.specs.Step.{are_formed, refused, place_for, slot_for, prepared, prepare, has_named, commit_as, commit, step}
-use Rattle.snap_call.proofs.Parts.{prepare_at}
+use Rattle.snap_call.specs.Step.{are_formed, refused, place_for, slot_for, prepared, prepare, has_named, commit_as, step}
+use Rattle.snap_call.proofs.Parts.{prepare_at, commit}
 use Rattle.snap_call.specs.Journal.{Replays}
 use Rattle.snap_grants.specs.Grants.{Origin, IsKeeping, AreKeeping, IsOrigin, AreOrigins, origin_of, origin_in}
 use Rattle.snap_grants.proofs.Staying.{either, unless, stays}

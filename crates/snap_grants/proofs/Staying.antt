@@ -25,9 +25,9 @@ use Rattle.snap_call.specs.declared.state.State.{State}
 use Rattle.snap_call.specs.Forms.{is_key, is_limit, is_page, is_start}
 use Rattle.snap_call.specs.Records.{record_at, is_slot, is_committed, active_at, charge_of, recharged, max_sessions}
 use Rattle.snap_call.specs.State.{place_of, shown_layers}
-use Rattle.snap_call.specs.Step.{counted, refused, unless_refused, place_for, granted, charge, trim, discard, ask, mounts, viewed, prepare_view, update_record, in_namespace, limited_at, step, at_record, new_record, relabelled_at}
+use Rattle.snap_call.specs.Step.{counted, refused, unless_refused, place_for, granted, charge, trim, discard, ask, mounts, viewed, prepare_view, update_record, in_namespace, step, at_record, new_record, relabelled_at}
 use Rattle.snap_call.specs.Steps.{session, update, walk_infos, set_limit, lease_create, lease_add, lease_drop, lease_release}
-use Rattle.snap_call.proofs.Parts.{charge_to, view_at, set_limit_at, lease_add_record, lease_drop_at}
+use Rattle.snap_call.proofs.Parts.{charge_to, view_at, set_limit_at, lease_add_record, lease_drop_at, limited_at}
 use Rattle.snap_call.proofs.Lists.{all-with_record, all-without}
 use Rattle.snap_grants.specs.Grants.{Stored, Origin, worth}
 use Rattle.snap_grants.proofs.Weights.{Comes, AllCome, weights-with_record, weights-without_slot, weights-recharged, weights-relabelled, weights-limited, comes-recharged, comes-relabelled, comes-limited}

@@ -1,7 +1,6 @@
 -- What a journal grants is what its sessions were granted.
 use Rattle.std.proofs.Common.{arith, ◌≡◌, ℕ, zero, suc, ◌+◌, ◌<◌, eqb, Bool, true, false, true≢false, List, [], ◌∷◌, refl, sym, ap, ◌∙◌}
 use Rattle.std.specs.Prelude.{cond, ◌==◌}
-use Rattle.std.proofs.lemmas.List.Elements.{All-head, All-tail}
 use Rattle.std.proofs.lemmas.Bool.{false_from_ne_true, eqb-true, eq-eqb}
 use Rattle.snap_lease.proofs.ListLemmas.{all-filter}
 use Rattle.snap_call.specs.declared.entry.Entry.{Entry}
@@ -45,8 +44,8 @@ nothing (suc n) = let a = nothing n in omega (arith, a)
 pub split : (n : ℕ) (h : Stored → ℕ) (origin : ℕ → Origin) (es : List Entry) → AreBelow n es → grants h origin es ≡ sum_below n (λ k. grants h origin (session_entries es k))
 split n h origin [] below = sym (nothing n)
 split n h origin (e ∷ es) below =
-    let rest = split n h origin es (All-tail (λ x. x.session < n) e es below) in
-    let all = sum_more n e.session (grant_of h origin e.call e.given e.reply) (λ k. grants h origin (session_entries (e ∷ es) k)) (λ k. grants h origin (session_entries es k)) (All-head (λ x. x.session < n) e es below)
+    let rest = split n h origin es below.1 in
+    let all = sum_more n e.session (grant_of h origin e.call e.given e.reply) (λ k. grants h origin (session_entries (e ∷ es) k)) (λ k. grants h origin (session_entries es k)) below.0
     (ap (λ (b : Bool). grants h origin (cond b (e ∷ session_entries es e.session) (session_entries es e.session))) (eq-eqb e.session e.session refl))
     (λ k other. ap (λ (b : Bool). grants h origin (cond b (e ∷ session_entries es k) (session_entries es k))) other) in
     omega (arith, rest, all)

@@ -17,7 +17,7 @@ use Rattle.snap_grants.proofs.Law.{committed_law}
 use Rattle.snap_grants.proofs.Origins.{origins}
 
 abbrev layer : Tree
-layer = root_only 493 1
+layer = root_only (record { mode = 493 }) 1
 
 abbrev start : State
 start = opening (record { root = 47 ∷ 114 ∷ []; namespaces = record { name = 97 ∷ []; limit = record { blocks = 10; inodes = 10 } } ∷ []; slots = default_slots; journal = 100; first_id = 1; layer_inodes = 65536; ancestors = 64 })

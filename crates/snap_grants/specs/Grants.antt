@@ -1,5 +1,5 @@
 -- What is committed at the end of a journal: what was committed at its start, and one snapshot for each granted Commit.
-use Rattle.std.specs.Prelude.{◌≡◌, ℕ, zero, suc, ◌+◌, ◌<◌, ◌==◌, if◌then◌else◌, List, [], ◌∷◌, All}
+use Rattle.std.specs.Prelude.{◌≡◌, ℕ, zero, suc, ◌+◌, ◌<◌, ◌==◌, if◌then◌else◌, List, [], ◌∷◌}
 use Rattle.std.specs.List.{AllByRecursion}
 use Rattle.snap_layer.specs.Tree.{Tree}
 use Rattle.snap_record.specs.Labels.{Bytes}
@@ -122,7 +122,7 @@ sum_below (suc n) f = sum_below n f + f n
 
 -- each entry is of a session below n
 abbrev pub AreBelow : ℕ → List Entry → Type 0
-AreBelow n es = All (λ e. e.session < n) es
+AreBelow n es = AllByRecursion (λ e. e.session < n) es
 
 -- and so by sessions: those of the start, and what the entries of each session were granted
 abbrev pub TapesLaw : ℕ → State → List Entry → State → Type 0

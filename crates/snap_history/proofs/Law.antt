@@ -63,7 +63,7 @@ small_charge name s good = by (place_of name s.namespaces) refl
     by (Some place) named =
         let inside = place_of-below name s.namespaces place named in
         let limit = limit_parts (limit_at place s.namespaces) (good.limits place inside) in
-        let within = good.within place inside in
+        let within = good.promised.within place inside in
         record { blocks = (let p = limit.blocks in let q = within.blocks in omega arith); inodes = (let p = limit.inodes in let q = within.inodes in omega arith) }
 
 -- ---- one entry

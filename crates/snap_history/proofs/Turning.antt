@@ -30,12 +30,12 @@ use Rattle.snap_call.specs.declared.config.Namespace.{Namespace}
 use Rattle.snap_call.specs.declared.state.State.{State}
 use Rattle.snap_call.specs.Forms.{is_key, is_limit, is_namespace, is_page, is_start}
 use Rattle.snap_call.specs.Good.{Good}
-use Rattle.snap_call.specs.Reached.{swept, unswept}
+use Rattle.snap_call.specs.Reached.{swept}
 use Rattle.snap_call.specs.Records.{active_at, charge_of, committed_as, has_children, has_key, has_records, is_active, is_committed, is_named, is_slot, record_at, recharged, relabelled, with_record, without_key, without_slot, HasLowSlot, max_sessions}
 use Rattle.snap_call.specs.State.{is_taken, is_taken_at, most_namespaces, name_at, place_of, shown_layers}
 use Rattle.snap_call.specs.Step.{are_formed, IsAllowed, IsCovered, IsOpenSlot, ask, charge, counted, commit_as, committed as committed_state, discard, has_named, in_namespace, mounts, one, place_for, prepare, prepared as prepared_state, refused, removed_at, slot_for, step, sweep, sweep_at, trim, unless_refused, update_record, prepare_view, at_record, new_record}
 use Rattle.snap_call.specs.Steps.{lease_add, lease_create, lease_drop, lease_release, namespace_create, namespace_remove, remove, session, set_limit, update, walk_infos}
-use Rattle.snap_call.proofs.Parts.{charge_to, lease_add_record, lease_drop_at, namespace_remove_at, prepare_at, remove_record, set_limit_at, view_at}
+use Rattle.snap_call.proofs.Parts.{charge_to, lease_add_record, lease_drop_at, namespace_remove_at, prepare_at, remove_record, set_limit_at, view_at, unswept}
 use Rattle.snap_call.proofs.Alike.{AreAlike, bare-relabelled, alike-active_at, alike-active_at_None, alike-charge_of}
 use Rattle.snap_call.proofs.Leasing.{place_of-name_at}
 use Rattle.snap_call.proofs.Lists.{active_at-all, record_at-is_named}

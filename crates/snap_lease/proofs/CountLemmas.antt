@@ -4,7 +4,7 @@ use Rattle.std.proofs.lemmas.Bool.Decides.{nat_tests}
 use Rattle.std.proofs.lemmas.List.Folds.{list_any-append, list_any_at}
 use Rattle.std.proofs.lemmas.List.Sums.{sum_by-cons, sum_by-set}
 use Rattle.std.proofs.lemmas.Slice.Eq.{bytes_eq-Decides}
-use Rattle.std.specs.List.{list_any}
+use Rattle.std.specs.List.{list_any, IsDistinct}
 use Rattle.snap_lease.specs.Lease.{Lease, is_of, is_lease, is_live, does_name, with_lease_name}
 use Rattle.snap_lease.specs.Leases.{has_lease, has_ended, AreDistinct, guards, naming_count, lease_names, with_name_added, without_lease, without_ended, CountsAdded, CountsReleased, CountsLive}
 use Rattle.snap_lease.proofs.ListLemmas.{changed, filter-none, has_lease-after, is_lease-parts, list_any-tail, with_name-namespace, set-with_name_added}
@@ -132,6 +132,7 @@ module _ (namespace lease : List ℕ) where
   -- after a release
   count_of-without_lease : (name : List ℕ) (ls : List Lease) → AreDistinct ls
       → naming_count (without_lease ls namespace lease) namespace name + (if lease_names ls namespace lease name then 1 else 0) ≡ naming_count ls namespace name
+  unfolding IsDistinct
   count_of-without_lease name [] distinct = refl
   count_of-without_lease name (l ∷ ls) distinct = by (is_lease namespace lease l) refl (count_of-without_lease name ls distinct.1)
     where
@@ -163,6 +164,7 @@ module _ (namespace lease : List ℕ) where
   -- what the namespace's lease names, where its place is known
   pub lease_names-at : (name : List ℕ) (ls : List Lease) (place : ℕ) (d : Lease) → AreDistinct ls → place < length ls → is_lease namespace lease (get_or ls place d) ≡ true
       → lease_names ls namespace lease name ≡ does_name name (get_or ls place d)
+  unfolding IsDistinct
   lease_names-at name [] place d distinct within is = absurd (omega arith)
   lease_names-at name (l ∷ ls) zero d distinct within is =
       ap (λ b. (b && does_name name l) || lease_names ls namespace lease name) is

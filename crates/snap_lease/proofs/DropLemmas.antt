@@ -15,15 +15,10 @@ use Rattle.snap_lease.specs.Leases.{AreDistinct, CountsDropped, guards, has_leas
 use Rattle.snap_lease.specs.Numbers.{AreNumbers, LeaseIndex, number_in, lease_number}
 use Rattle.snap_lease.proofs.CountLemmas.{bytes_eq-other, count_by-agree, count_by-list_any, count_by-map, is_of-is_lease, is_of-other, lease_names-at}
 use Rattle.snap_lease.proofs.IndexLemmas.{one_if}
-use Rattle.snap_lease.proofs.ListLemmas.{all-filter, filter-none, has_lease-after, map-none}
+use Rattle.snap_lease.proofs.ListLemmas.{IsDistinct-filter, IsDistinct-map, filter-none, has_lease-after, list_any-each, map-none}
 use Rattle.snap_lease.proofs.NumberLemmas.{Stands, number_of-set, stands_at_number}
 
 -- ---- the names of one lease
-
--- a name that is apart from each of these is none of them
-none-apart : (name : List ℕ) (ns : List (List ℕ)) → AllByRecursion (λ n. bytes_eq name n ≡ false) ns → list_any (bytes_eq name) ns ≡ false
-none-apart name [] all = refl
-none-apart name (n ∷ ns) all = ap (λ b. b || list_any (bytes_eq name) ns) all.0 ∙ none-apart name ns all.1
 
 -- the keys of a map whose entry of the name was removed
 pub names-removed : {Z X : Type 0} (name : List ℕ) (es : List (String Z × X)) → IsDistinct bytes_eq (map string_bytes (keys_of es))
@@ -40,7 +35,7 @@ names-removed name (e ∷ es) once = by (bytes_eq name (string_bytes e.0)) refl 
         → map string_bytes (keys_of (cond b es (e ∷ remove_entry (λ k. bytes_eq name (string_bytes k)) es))) ≡ cond (not b) (string_bytes e.0 ∷ filter (λ n. not (bytes_eq name n)) others) (filter (λ n. not (bytes_eq name n)) others)
     by true is rest =
         let at : name ≡ string_bytes e.0 = (bytes_eq-Decides name (string_bytes e.0)).0 is in
-        sym (filter-none (bytes_eq name) others (ap (λ n. list_any (bytes_eq n) others) at ∙ none-apart (string_bytes e.0) others once.0))
+        sym (filter-none (bytes_eq name) others (ap (λ n. list_any (bytes_eq n) others) at ∙ list_any-each (bytes_eq (string_bytes e.0)) others once.0))
     by false is rest = ap (λ ns. string_bytes e.0 ∷ ns) rest
 
 -- a lease that lacks the name stays as it is
@@ -77,16 +72,7 @@ without_name-other name other l differ = by l.names
 
 -- the names stay distinct
 pub NamesOnce-without_name : (name : List ℕ) (l : Lease) → NamesOnce l → NamesOnce (without_lease_name name l)
-unfolding IsDistinct
-NamesOnce-without_name name l once = by l.names once
-  where
-    by : (ns : List (List ℕ)) → IsDistinct bytes_eq ns → IsDistinct bytes_eq (filter (λ n. not (bytes_eq name n)) ns)
-    by [] distinct = tt
-    by (n ∷ ns) distinct = at (not (bytes_eq name n)) (by ns distinct.1)
-      where
-        at : (b : Bool) → IsDistinct bytes_eq (filter (λ m. not (bytes_eq name m)) ns) → IsDistinct bytes_eq (cond b (n ∷ filter (λ m. not (bytes_eq name m)) ns) (filter (λ m. not (bytes_eq name m)) ns))
-        at true rest = (all-filter (λ m. bytes_eq n m ≡ false) (λ m. not (bytes_eq name m)) ns distinct.0, rest)
-        at false rest = rest
+NamesOnce-without_name name l once = IsDistinct-filter bytes_eq (λ n. not (bytes_eq name n)) l.names once
 
 -- ---- its counts
 
@@ -137,22 +123,14 @@ module _ (namespace lease name : List ℕ) where
   abbrev changed : Lease → Lease
   changed l = if is_lease namespace lease l then without_lease_name name l else l
 
-  has_lease-changed : (space other : List ℕ) (ls : List Lease) → has_lease (with_name_dropped ls namespace lease name) space other ≡ has_lease ls space other
-  has_lease-changed space other [] = refl
-  has_lease-changed space other (l ∷ ls) = by (is_lease namespace lease l) (has_lease-changed space other ls)
-    where
-      by : (b : Bool) → has_lease (with_name_dropped ls namespace lease name) space other ≡ has_lease ls space other
-          → (is_lease space other (if b then without_lease_name name l else l) || has_lease (with_name_dropped ls namespace lease name) space other) ≡ has_lease (l ∷ ls) space other
-      by true rest = ap (λ b. is_lease space other l || b) rest
-      by false rest = ap (λ b. is_lease space other l || b) rest
-
   pub AreDistinct-with_name_dropped : (ls : List Lease) → AreDistinct ls → AreDistinct (with_name_dropped ls namespace lease name)
-  AreDistinct-with_name_dropped [] distinct = tt
-  AreDistinct-with_name_dropped (l ∷ ls) distinct = (by (is_lease namespace lease l), AreDistinct-with_name_dropped ls distinct.1)
+  AreDistinct-with_name_dropped = IsDistinct-map (λ l. is_lease l.namespace l.name) changed (λ l k. kept l k (is_lease namespace lease l) (is_lease namespace lease k))
     where
-      by : (b : Bool) → has_lease (with_name_dropped ls namespace lease name) (if b then without_lease_name name l else l).namespace (if b then without_lease_name name l else l).name ≡ false
-      by true = has_lease-changed l.namespace l.name ls ∙ distinct.0
-      by false = has_lease-changed l.namespace l.name ls ∙ distinct.0
+      kept : (l k : Lease) (a b : Bool) → is_lease (if a then without_lease_name name l else l).namespace (if a then without_lease_name name l else l).name (if b then without_lease_name name k else k) ≡ is_lease l.namespace l.name k
+      kept l k true true = refl
+      kept l k true false = refl
+      kept l k false true = refl
+      kept l k false false = refl
 
   pub NamesOnce-with_name_dropped : (ls : List Lease) → AllByRecursion NamesOnce ls → AllByRecursion NamesOnce (with_name_dropped ls namespace lease name)
   NamesOnce-with_name_dropped [] all = tt
@@ -165,6 +143,7 @@ module _ (namespace lease name : List ℕ) where
   -- a write at the place of the lease changes it alone
   pub set-with_name_dropped : (ls : List Lease) (place : ℕ) (d : Lease) → AreDistinct ls → place < length ls → is_lease namespace lease (get_or ls place d) ≡ true
       → set ls place (without_lease_name name (get_or ls place d)) ≡ with_name_dropped ls namespace lease name
+  unfolding IsDistinct
   set-with_name_dropped [] place d distinct within is = absurd (omega arith)
   set-with_name_dropped (l ∷ ls) zero d distinct within is =
       ap (λ k. k ∷ ls) (sym (ap (λ b. if b then without_lease_name name l else l) is))

@@ -126,6 +126,7 @@ counts-changed ls place old new d before after are within at recounted space nam
 -- the lease at a place is released
 pub naming_count-released : (namespace lease space name : List ℕ) (ls : List Lease) (place : ℕ) (d : Lease) → AreDistinct ls → place < length ls → is_lease namespace lease (get_or ls place d) ≡ true
     → naming_count (without_lease ls namespace lease) space name + one_if (guards space name (get_or ls place d)) ≡ naming_count ls space name
+unfolding IsDistinct
 naming_count-released namespace lease space name [] place d distinct within is = absurd (omega arith)
 naming_count-released namespace lease space name (l ∷ ls) zero d distinct within is =
     let none : has_lease ls namespace lease ≡ false = has_lease-after namespace lease l ls distinct is in

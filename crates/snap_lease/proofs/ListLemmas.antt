@@ -1,6 +1,6 @@
 -- Lemmas on lists of leases: which lease is meant, and that leases stay distinct.
 use Rattle.std.proofs.Common.{◌≡◌, ℕ, zero, suc, ◌<◌, Bool, true, false, not, cond, List, [], ◌∷◌, ◌++◌, ◌&&◌, ◌||◌, Option, map, filter, set, length, get_or, refl, sym, ap, ◌∙◌, arith, true≢false, if◌then◌else◌, bytes_eq}
-use Rattle.std.proofs.lemmas.List.Folds.{list_any-append, list_any_at}
+use Rattle.std.proofs.lemmas.List.Folds.{list_any_at}
 use Rattle.std.proofs.lemmas.Slice.Eq.{bytes_eq-Decides}
 use Rattle.std.specs.List.{list_any, AllByRecursion, IsDistinct}
 use Rattle.snap_lease.specs.Lease.{Lease, is_lease, does_name, empty_lease, with_lease_name, NamesOnce}
@@ -23,13 +23,9 @@ module _ {X : Type 0} (t : X → Bool) where
       let both = list_any-tail x xs none in
       ap (λ b. (if b then f x else x) ∷ map (λ y. if t y then f y else y) xs) both.0 ∙ ap (λ ys. x ∷ ys) (map-none f xs both.1)
 
-  pub list_any-filter_none : (p : X → Bool) (xs : List X) → list_any t xs ≡ false → list_any t (filter p xs) ≡ false
-  list_any-filter_none p [] none = refl
-  list_any-filter_none p (x ∷ xs) none = by (p x) refl (list_any-filter_none p xs (list_any-tail x xs none).1)
-    where
-      by : (b : Bool) → p x ≡ b → list_any t (filter p xs) ≡ false → list_any t (filter p (x ∷ xs)) ≡ false
-      by true e rest = ap (λ b. list_any t (cond b (x ∷ filter p xs) (filter p xs))) e ∙ ap (λ b. b || list_any t (filter p xs)) (list_any-tail x xs none).0 ∙ rest
-      by false e rest = ap (λ b. list_any t (cond b (x ∷ filter p xs) (filter p xs))) e ∙ rest
+  pub list_any-each : (xs : List X) → AllByRecursion (λ x. t x ≡ false) xs → list_any t xs ≡ false
+  list_any-each [] all = refl
+  list_any-each (x ∷ xs) all = ap (λ b. b || list_any t xs) all.0 ∙ list_any-each xs all.1
 
 -- the test of a lease finds its namespace and its name
 pub is_lease-parts : (namespace lease : List ℕ) (l : Lease) → is_lease namespace lease l ≡ true → (namespace ≡ l.namespace) × (lease ≡ l.name)
@@ -48,23 +44,6 @@ bytes_eq_comm xs ys = by (bytes_eq xs ys) (bytes_eq ys xs) refl refl
 pub is_lease_comm : (l k : Lease) → is_lease l.namespace l.name k ≡ is_lease k.namespace k.name l
 is_lease_comm l k = ap (λ b. b && bytes_eq l.name k.name) (bytes_eq_comm l.namespace k.namespace) ∙ ap (λ b. bytes_eq k.namespace l.namespace && b) (bytes_eq_comm l.name k.name)
 
--- a lease that is new goes last
-pub AreDistinct-push : (ls : List Lease) (l : Lease) → AreDistinct ls → has_lease ls l.namespace l.name ≡ false → AreDistinct (ls ++ l ∷ [])
-AreDistinct-push [] l distinct absent = (refl, tt)
-AreDistinct-push (k ∷ ks) l distinct absent =
-    let both = list_any-tail (is_lease l.namespace l.name) k ks absent in
-    let other : is_lease k.namespace k.name l ≡ false = is_lease_comm k l ∙ both.0 in
-    let new : has_lease (l ∷ []) k.namespace k.name ≡ false = ap (λ b. b || false) other in
-    (list_any-append (is_lease k.namespace k.name) ks (l ∷ []) ∙ ap (λ b. b || has_lease (l ∷ []) k.namespace k.name) distinct.0 ∙ new, AreDistinct-push ks l distinct.1 both.1)
-
-pub AreDistinct-filter : (p : Lease → Bool) (ls : List Lease) → AreDistinct ls → AreDistinct (filter p ls)
-AreDistinct-filter p [] distinct = tt
-AreDistinct-filter p (l ∷ ls) distinct = by (p l) (AreDistinct-filter p ls distinct.1)
-  where
-    by : (b : Bool) → AreDistinct (filter p ls) → AreDistinct (cond b (l ∷ filter p ls) (filter p ls))
-    by true rest = (list_any-filter_none (is_lease l.namespace l.name) p ls distinct.0, rest)
-    by false rest = rest
-
 -- ---- what is so of each element
 
 module _ {X : Type 0} (P : X → Type 0) where
@@ -80,13 +59,34 @@ module _ {X : Type 0} (P : X → Type 0) where
       by true rest = (all.0, rest)
       by false rest = rest
 
--- a name that is new goes last
-IsDistinct-push : (ns : List (List ℕ)) (name : List ℕ) → list_any (bytes_eq name) ns ≡ false → IsDistinct bytes_eq ns → IsDistinct bytes_eq (ns ++ name ∷ [])
-unfolding IsDistinct
-IsDistinct-push [] name absent once = (tt, tt)
-IsDistinct-push (n ∷ ns) name absent once =
-    let both = list_any-tail (bytes_eq name) n ns absent in
-    (all-push (λ y. bytes_eq n y ≡ false) ns name once.0 (bytes_eq_comm n name ∙ both.0), IsDistinct-push ns name both.1 once.1)
+-- ---- what is distinct
+
+module _ {X : Type 0} (same : X → X → Bool) where
+  -- what is new goes last
+  pub IsDistinct-push : ((x y : X) → same x y ≡ same y x) → (xs : List X) (x : X) → IsDistinct same xs → list_any (same x) xs ≡ false → IsDistinct same (xs ++ x ∷ [])
+  unfolding IsDistinct
+  IsDistinct-push comm [] x distinct absent = (tt, tt)
+  IsDistinct-push comm (y ∷ ys) x distinct absent =
+      let both = list_any-tail (same x) y ys absent in
+      (all-push (λ z. same y z ≡ false) ys x distinct.0 (comm y x ∙ both.0), IsDistinct-push comm ys x distinct.1 both.1)
+
+  pub IsDistinct-filter : (p : X → Bool) (xs : List X) → IsDistinct same xs → IsDistinct same (filter p xs)
+  unfolding IsDistinct
+  IsDistinct-filter p [] distinct = tt
+  IsDistinct-filter p (x ∷ xs) distinct = by (p x) (IsDistinct-filter p xs distinct.1)
+    where
+      by : (b : Bool) → IsDistinct same (filter p xs) → IsDistinct same (cond b (x ∷ filter p xs) (filter p xs))
+      by true rest = (all-filter (λ y. same x y ≡ false) p xs distinct.0, rest)
+      by false rest = rest
+
+  pub IsDistinct-map : (f : X → X) → ((x y : X) → same (f x) (f y) ≡ same x y) → (xs : List X) → IsDistinct same xs → IsDistinct same (map f xs)
+  unfolding IsDistinct
+  IsDistinct-map f kept [] distinct = tt
+  IsDistinct-map f kept (x ∷ xs) distinct = (by xs distinct.0, IsDistinct-map f kept xs distinct.1)
+    where
+      by : (ys : List X) → AllByRecursion (λ y. same x y ≡ false) ys → AllByRecursion (λ y. same (f x) y ≡ false) (map f ys)
+      by [] all = tt
+      by (y ∷ ys) all = (kept x y ∙ all.0, by ys all.1)
 
 pub NamesOnce-empty : (namespace lease : List ℕ) (until : Option ℕ) → NamesOnce (empty_lease namespace lease until)
 unfolding IsDistinct
@@ -97,13 +97,14 @@ NamesOnce-with_name name l once = by (does_name name l) refl
   where
     by : (b : Bool) → does_name name l ≡ b → NamesOnce (if b then l else record l { names = l.names ++ name ∷ [] })
     by true named = once
-    by false absent = IsDistinct-push l.names name absent once
+    by false absent = IsDistinct-push bytes_eq bytes_eq_comm l.names name once absent
 
 -- after a lease that is of the namespace and of the name, there is no other
 pub has_lease-after : (namespace lease : List ℕ) (l : Lease) (ls : List Lease) → AreDistinct (l ∷ ls) → is_lease namespace lease l ≡ true → has_lease ls namespace lease ≡ false
+unfolding IsDistinct
 has_lease-after namespace lease l ls distinct is =
     let parts = is_lease-parts namespace lease l is in
-    ap (λ n. has_lease ls n lease) parts.0 ∙ ap (has_lease ls l.namespace) parts.1 ∙ distinct.0
+    ap (λ n. has_lease ls n lease) parts.0 ∙ ap (has_lease ls l.namespace) parts.1 ∙ list_any-each (is_lease l.namespace l.name) ls distinct.0
 
 -- a lease keeps its namespace and its name when a name is added
 pub with_name-namespace : (name : List ℕ) (l : Lease) → (with_lease_name name l).namespace ≡ l.namespace
@@ -146,16 +147,11 @@ module _ (namespace lease name : List ℕ) where
       by true = with_name-name name l
       by false = refl
 
-  pub has_lease-with_name_added : (space other : List ℕ) (ls : List Lease) → has_lease (with_name_added ls namespace lease name) space other ≡ has_lease ls space other
-  has_lease-with_name_added space other [] = refl
-  has_lease-with_name_added space other (l ∷ ls) =
-      ap (λ b. b || has_lease (with_name_added ls namespace lease name) space other) (is_lease-changed space other l)
-      ∙ ap (λ b. is_lease space other l || b) (has_lease-with_name_added space other ls)
-
   pub AreDistinct-with_name_added : (ls : List Lease) → AreDistinct ls → AreDistinct (with_name_added ls namespace lease name)
-  AreDistinct-with_name_added [] distinct = tt
-  AreDistinct-with_name_added (l ∷ ls) distinct =
-      (has_lease-with_name_added (changed l).namespace (changed l).name ls ∙ ap (λ n. has_lease ls n (changed l).name) (namespace-changed l) ∙ ap (has_lease ls l.namespace) (name-changed l) ∙ distinct.0, AreDistinct-with_name_added ls distinct.1)
+  AreDistinct-with_name_added = IsDistinct-map (λ l. is_lease l.namespace l.name) changed kept
+    where
+      kept : (l k : Lease) → is_lease (changed l).namespace (changed l).name (changed k) ≡ is_lease l.namespace l.name k
+      kept l k = is_lease-changed (changed l).namespace (changed l).name k ∙ ap (λ n. is_lease n (changed l).name k) (namespace-changed l) ∙ ap (λ n. is_lease l.namespace n k) (name-changed l)
 
   pub NamesOnce-with_name_added : (ls : List Lease) → AllByRecursion NamesOnce ls → AllByRecursion NamesOnce (with_name_added ls namespace lease name)
   NamesOnce-with_name_added [] all = tt
@@ -168,6 +164,7 @@ module _ (namespace lease name : List ℕ) where
   -- a write at the place of the lease changes it alone
   pub set-with_name_added : (ls : List Lease) (place : ℕ) (d : Lease) → AreDistinct ls → place < length ls → is_lease namespace lease (get_or ls place d) ≡ true
       → set ls place (with_lease_name name (get_or ls place d)) ≡ with_name_added ls namespace lease name
+  unfolding IsDistinct
   set-with_name_added [] place d distinct within is = absurd (omega arith)
   set-with_name_added (l ∷ ls) zero d distinct within is =
       ap (λ k. k ∷ ls) (sym (ap (λ b. if b then with_lease_name name l else l) is))

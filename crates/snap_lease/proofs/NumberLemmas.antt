@@ -7,7 +7,7 @@ use Rattle.std.proofs.lemmas.Map.Text.{is_eq-slice_cmp}
 use Rattle.std.proofs.lemmas.Slice.Eq.{bytes_eq-Decides}
 use Rattle.std.specs.BTreeMap.{btree_map_len, get_by_text, insert_entry, is_at}
 use Rattle.std.specs.Cmp.Lexicographic.{slice_cmp}
-use Rattle.std.specs.List.{AllByRecursion, list_any}
+use Rattle.std.specs.List.{AllByRecursion, IsDistinct, list_any}
 use Rattle.std.specs.List.Sorted.{IsStrictlySortedBy}
 use Rattle.std.specs.Map.{keys_of, values_of, lookup, set_value, remove_entry}
 use Rattle.std.specs.Option.{option_and_then, option_map}
@@ -140,6 +140,7 @@ module _ (space q : List ℕ) where
   -- the leases that pass a test go
   pub number_of-filter : (test : Lease → Bool) (es : List (ℕ × Lease)) → AreDistinct (values_of es)
       → lease_number space q (filter (λ e. not (test e.1)) es) ≡ cond (list_any (λ l. test l && is_lease space q l) (values_of es)) None (lease_number space q es)
+  unfolding IsDistinct
   number_of-filter test [] distinct = refl
   number_of-filter test (e ∷ es) distinct = by (test e.1) (is_lease space q e.1) refl (number_of-filter test es distinct.1)
     where
@@ -194,7 +195,7 @@ module _ (namespace lease : List ℕ) (n : ℕ) where
 
   -- the lease's number leads to that lease alone
   pub numbered : (es : List (ℕ × Lease)) → IsStrictlySortedBy nat_cmp (keys_of es) → AreDistinct (values_of es) → lease_number namespace lease es ≡ Some n → Agree (is_at (nat_cmp n)) (is_lease namespace lease) es
-  unfolding IsStrictlySortedBy
+  unfolding IsStrictlySortedBy IsDistinct
   numbered [] sorted distinct found = tt
   numbered (e ∷ es) sorted distinct found = by (is_lease namespace lease e.1) refl found (numbered es sorted.1 distinct.1)
     where
@@ -259,6 +260,7 @@ module _ (t : ℕ → Bool) where
 
   -- it goes, and no other
   pub removed : (namespace lease : List ℕ) (es : List (ℕ × Lease)) → Agree t (is_lease namespace lease) es → AreDistinct (values_of es) → remove_entry t es ≡ filter (λ e. not (is_lease namespace lease e.1)) es
+  unfolding IsDistinct
   removed namespace lease [] agree distinct = refl
   removed namespace lease (e ∷ es) agree distinct =
       ap (λ b. cond b es (e ∷ remove_entry t es)) agree.0 ∙ by (is_lease namespace lease e.1) refl (removed namespace lease es agree.1 distinct.1)

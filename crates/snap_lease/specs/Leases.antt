@@ -1,6 +1,6 @@
 -- The leases of all namespaces, in the order in which they were created.
-use Rattle.std.specs.Prelude.{◌≡◌, ◌≢◌, ℕ, ◌+◌, Bool, false, not, List, [], ◌∷◌, Option, map, filter, find, count_by, ◌&&◌, if◌then◌else◌}
-use Rattle.std.specs.List.{list_any}
+use Rattle.std.specs.Prelude.{◌≡◌, ◌≢◌, ℕ, ◌+◌, Bool, not, List, Option, map, filter, find, count_by, ◌&&◌, if◌then◌else◌}
+use Rattle.std.specs.List.{list_any, IsDistinct}
 use Rattle.std.specs.Option.{option_map}
 use Rattle.snap_lease.specs.Lease.{Lease, is_of, is_lease, does_name, is_live, with_lease_name, without_lease_name}
 
@@ -14,8 +14,7 @@ has_leases ls namespace = list_any (is_of namespace) ls
 
 -- no two leases of one namespace have the same name
 abbrev pub AreDistinct : List Lease → Type 0
-AreDistinct [] = Unit {0}
-AreDistinct (l ∷ ls) = (has_lease ls l.namespace l.name ≡ false) × AreDistinct ls
+AreDistinct ls = IsDistinct (λ l. is_lease l.namespace l.name) ls
 
 -- the names of the namespace's lease, in order
 abbrev pub names_in_lease : List Lease → List ℕ → List ℕ → Option (List (List ℕ))

@@ -137,8 +137,8 @@ impl Leases {
         let Some(number) = self.numbers.get(namespace, lease) else {
             return Err(LeaseError::NoLease);
         };
-        // With the length read, the proof knows that a count has room.
-        let _ = self.list.len();
+        // A count has room for one more.
+        prove!(self.list.len() < usize::MAX);
         let Some(entry) = self.list.get_mut(&number) else {
             unreachable!()
         };

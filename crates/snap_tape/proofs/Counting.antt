@@ -1,7 +1,13 @@
--- A number that stands once.
+-- What holds of each element holds at each place; a number that stands once.
 use Rattle.std.specs.Prelude.{slice_get, count_by, cond}
+use Rattle.std.specs.List.{AllByRecursion}
 use Rattle.std.proofs.lemmas.List.Sums.{sum_by-cons}
 use Rattle.std.proofs.Common.{◌≡◌, ℕ, zero, suc, ◌+◌, ◌<◌, Bool, true, false, List, [], ◌∷◌, Some, refl, ap, subst, arith}
+
+pub all-there : {A : Type 0} (P : A → Type 0) (xs : List A) (i : ℕ) (x : A) → slice_get xs i ≡ Some x → AllByRecursion P xs → P x
+all-there P [] i x there all = absurd (cc)
+all-there P (y ∷ ys) zero x there all = subst P (cc) all.0
+all-there P (y ∷ ys) (suc i) x there all = all-there P ys i x there all.1
 
 abbrev one_if : Bool → ℕ
 one_if b = cond b 1 0

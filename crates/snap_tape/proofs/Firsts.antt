@@ -1,11 +1,12 @@
 -- The first mismatch of the sessions of one list and of another.
-use Rattle.std.specs.Prelude.{slice_get, get_or, All, Any}
+use Rattle.std.specs.Prelude.{slice_get, get_or, Any}
+use Rattle.std.specs.List.{AllByRecursion}
 use Rattle.std.proofs.Math.Seq.{take-suc}
 use Rattle.std.proofs.Common.{◌≡◌, ℕ, zero, suc, ◌+◌, ◌<◌, ◌≤◌, List, [], ◌∷◌, ◌++◌, length, take, Option, None, Some, refl, sym, ap, ◌∙◌, arith, inl, inr, add-one, length-append}
 use Rattle.std.proofs.lemmas.List.{get_or_append_left, get_or-append-add}
-use Rattle.std.proofs.lemmas.List.Elements.{All-append, All-cons, All-nil, All-weaker}
 use Rattle.snap_call.specs.declared.entry.Entry.{Entry}
 use Rattle.snap_call.specs.Journal.{session_entries}
+use Rattle.snap_call.proofs.Lists.{all-append, all-map}
 use Rattle.snap_tape.specs.Tapes.{SessionValue}
 use Rattle.snap_tape.specs.Sessions.{DiffersAt, IsBound, IsFirst, IsFirstMismatch, IsMismatch, IsNotAfter, IsOwn}
 use Rattle.snap_tape.specs.Following.{IsDifference}
@@ -35,7 +36,7 @@ no_later tape entries p q d e h =
 pub of_one : (journal : List Entry) (s : SessionValue) (place : ℕ) → IsDifference s.tape (session_entries journal s.number) (Some place) → IsFirstMismatch journal (s ∷ []) (Some (record { session = s.number; place = place }))
 of_one journal s place d = record {
   there = (0, s, omega arith, refl, (refl, d));
-  least = All-cons (IsBound journal (record { session = s.number; place = place })) s [] bound (All-nil (IsBound journal (record { session = s.number; place = place })));
+  least = (bound, tt);
 }
   where
     not_before : (q : ℕ) → DiffersAt s.tape (session_entries journal s.number) q → place ≤ q
@@ -50,16 +51,16 @@ bound_own journal m s own_is place d = absurd (d.other (ap (λ l. slice_get l pl
 
 -- ---- two lists
 
-pub of_left : (journal : List Entry) (left right : List SessionValue) (m : Mismatch) → IsFirst journal left m → All (IsOwn journal) right → IsFirst journal (left ++ right) m
+pub of_left : (journal : List Entry) (left right : List SessionValue) (m : Mismatch) → IsFirst journal left m → AllByRecursion (IsOwn journal) right → IsFirst journal (left ++ right) m
 of_left journal left right m first rest = record {
   there = any_left (λ s. (s.number ≡ m.session) × IsMismatch journal m.place s) left right first.there;
-  least = All-append (IsBound journal m) left right first.least (All-weaker (IsOwn journal) (IsBound journal m) (bound_own journal m) right rest);
+  least = all-append (IsBound journal m) left right first.least (all-map (IsOwn journal) (IsBound journal m) (bound_own journal m) right rest);
 }
 
-pub of_right : (journal : List Entry) (left right : List SessionValue) (m : Mismatch) → All (IsOwn journal) left → IsFirst journal right m → IsFirst journal (left ++ right) m
+pub of_right : (journal : List Entry) (left right : List SessionValue) (m : Mismatch) → AllByRecursion (IsOwn journal) left → IsFirst journal right m → IsFirst journal (left ++ right) m
 of_right journal left right m rest first = record {
   there = any_right (λ s. (s.number ≡ m.session) × IsMismatch journal m.place s) left right first.there;
-  least = All-append (IsBound journal m) left right (All-weaker (IsOwn journal) (IsBound journal m) (bound_own journal m) left rest) first.least;
+  least = all-append (IsBound journal m) left right (all-map (IsOwn journal) (IsBound journal m) (bound_own journal m) left rest) first.least;
 }
 
 not_after-trans : (m n o : Mismatch) → IsNotAfter m n → IsNotAfter n o → IsNotAfter m o
@@ -74,21 +75,21 @@ weaker journal m n le s bound place d = not_after-trans m n (record { session = 
 pub lesser_left : (journal : List Entry) (left right : List SessionValue) (m n : Mismatch) → IsNotAfter m n → IsFirst journal left m → IsFirst journal right n → IsFirst journal (left ++ right) m
 lesser_left journal left right m n le first other = record {
   there = any_left (λ s. (s.number ≡ m.session) × IsMismatch journal m.place s) left right first.there;
-  least = All-append (IsBound journal m) left right first.least (All-weaker (IsBound journal n) (IsBound journal m) (weaker journal m n le) right other.least);
+  least = all-append (IsBound journal m) left right first.least (all-map (IsBound journal n) (IsBound journal m) (weaker journal m n le) right other.least);
 }
 
 pub lesser_right : (journal : List Entry) (left right : List SessionValue) (m n : Mismatch) → IsNotAfter n m → IsFirst journal left m → IsFirst journal right n → IsFirst journal (left ++ right) n
 lesser_right journal left right m n le first other = record {
   there = any_right (λ s. (s.number ≡ n.session) × IsMismatch journal n.place s) left right other.there;
-  least = All-append (IsBound journal n) left right (All-weaker (IsBound journal m) (IsBound journal n) (weaker journal n m le) left first.least) other.least;
+  least = all-append (IsBound journal n) left right (all-map (IsBound journal m) (IsBound journal n) (weaker journal n m le) left first.least) other.least;
 }
 
-pub both : (journal : List Entry) (left right : List SessionValue) → All (IsOwn journal) left → All (IsOwn journal) right → All (IsOwn journal) (left ++ right)
-both journal left right a b = All-append (IsOwn journal) left right a b
+pub both : (journal : List Entry) (left right : List SessionValue) → AllByRecursion (IsOwn journal) left → AllByRecursion (IsOwn journal) right → AllByRecursion (IsOwn journal) (left ++ right)
+both journal left right a b = all-append (IsOwn journal) left right a b
 
 -- ---- by what was found
 
-pub of_both : (journal : List Entry) (left right : List SessionValue) (m : Option Mismatch) → All (IsOwn journal) left → IsFirstMismatch journal right m → IsFirstMismatch journal (left ++ right) m
+pub of_both : (journal : List Entry) (left right : List SessionValue) (m : Option Mismatch) → AllByRecursion (IsOwn journal) left → IsFirstMismatch journal right m → IsFirstMismatch journal (left ++ right) m
 of_both journal left right None a b = both journal left right a b
 of_both journal left right (Some m) a b = of_right journal left right m a b
 

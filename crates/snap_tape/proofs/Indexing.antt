@@ -3,7 +3,7 @@ use Rattle.std.specs.Prelude.{slice_get, get_or, slice_index_or, All, count_by, 
 use Rattle.std.proofs.Common.{◌≡◌, ◌≢◌, ◌⊎◌, inl, inr, ℕ, zero, suc, ◌+◌, ◌<◌, ◌≤◌, true, false, List, [], ◌∷◌, ◌++◌, length, take, drop, set, replicate, Option, None, Some, refl, sym, ap, ◌∙◌, subst, arith, add-one, append-nil, length-set}
 use Rattle.std.proofs.Math.Seq.{take-append_seam, take-suc}
 use Rattle.std.proofs.lemmas.Bool.Decides.{nat_tests}
-use Rattle.std.proofs.lemmas.List.Elements.{filter-append}
+use Rattle.std.proofs.lemmas.List.Elements.{filter-append, recursion_from_All}
 use Rattle.std.proofs.lemmas.List.{length-take, length-take-le}
 use Rattle.std.proofs.lemmas.Option.{get_or_from_slice_get, slice_get-get_or, slice_get_within}
 use Rattle.snap_call.specs.declared.entry.Entry.{Entry}
@@ -12,7 +12,7 @@ use Rattle.snap_tape.specs.Tapes.{SessionValue}
 use Rattle.snap_tape.specs.Sessions.{AreOnce, has_session_number}
 use Rattle.snap_tape.specs.Following.{AreFollowed, AreIndexes, IsProgress, index_in}
 use Rattle.snap_tape.specs.declared.mismatch.Progress.{Progress}
-use Rattle.snap_tape.proofs.Counting.{one_alone, once_counted, stands}
+use Rattle.snap_tape.proofs.Counting.{all-there, one_alone, once_counted, stands}
 use Rattle.snap_tape.proofs.Firsts.{slice_get-take, taken_more}
 use Rattle.snap_tape.proofs.Progressing.{slice_get-append, slice_get-seam}
 
@@ -119,9 +119,7 @@ no_indexes n = record { index = λ i s e. absurd (cc); held = λ m i e. absurd (
 
 pub outside : (sessions : List SessionValue) (i : ℕ) (s : SessionValue) → slice_get sessions i ≡ Some s → length sessions ≤ s.number → AreOnce sessions → ⊥
 outside sessions i s there over once =
-    let at = once.inside i s (slice_get_within sessions i s there) in
-    let is = get_or_from_slice_get sessions i s s there in
-    absurd (omega (arith, over, subst (λ (x : SessionValue). x.number < length sessions) is at))
+    absurd (omega (arith, over, all-there (λ x. x.number < length sessions) sessions i s there once.inside))
 
 pub passes : (n : ℕ) (s : SessionValue) → s.number ≡ n → has_session_number n s ≡ true
 passes n s e = grind (arith, nat_tests)
@@ -131,7 +129,7 @@ passed n s e = grind (arith, nat_tests)
 
 pub twice : (sessions : List SessionValue) (i k : ℕ) (s t : SessionValue) → slice_get sessions i ≡ Some s → slice_get sessions k ≡ Some t → t.number ≡ s.number → i ≢ k → AreOnce sessions → ⊥
 twice sessions i k s t at_i at_k same ne once =
-    let inside = subst (λ (x : SessionValue). x.number < length sessions) (get_or_from_slice_get sessions i s s at_i) (once.inside i s (slice_get_within sessions i s at_i)) in
+    let inside = all-there (λ x. x.number < length sessions) sessions i s at_i once.inside in
     ne (one_alone (has_session_number s.number) sessions i k s t (once.once s.number inside) at_i at_k (passes s.number s refl) (passes s.number t same))
 
 pub missing : (sessions : List SessionValue) (indexes : List (Option ℕ)) (n : ℕ) → AreIndexes sessions indexes → n < length sessions → index_in indexes n ≡ None → AreOnce sessions → ⊥
@@ -188,7 +186,7 @@ all_taken sessions indexes at size once k d h =
     is_taken (get_or indexes k d) found.0 (get_or_from_slice_get indexes k (Some found.0) d held)
 
 pub indexed_once : (sessions : List SessionValue) (indexes : List (Option ℕ)) → AreIndexes sessions indexes → length indexes ≡ length sessions → ((n : ℕ) → n < length sessions → (i : ℕ) × (index_in indexes n ≡ Some i)) → AreOnce sessions
-indexed_once sessions indexes at size full = record { inside = inside; once = once }
+indexed_once sessions indexes at size full = record { inside = recursion_from_All (λ s. s.number < length sessions) sessions inside; once = once }
   where
     inside : (k : ℕ) (d : SessionValue) → k < length sessions → (slice_index_or sessions k d).number < length sessions
     inside k d h =

@@ -1,5 +1,6 @@
 -- What is asked of the sessions of a round and of their tapes.
-use Rattle.std.specs.Prelude.{◌≡◌, ◌≢◌, ◌⊎◌, ℕ, ◌<◌, ◌≤◌, ◌==◌, Bool, List, length, take, slice_get, count_by, All, Any, Option, None, Some, Result, Ok, Err}
+use Rattle.std.specs.Prelude.{◌≡◌, ◌≢◌, ◌⊎◌, ℕ, ◌<◌, ◌≤◌, ◌==◌, Bool, List, length, take, slice_get, count_by, Any, Option, None, Some, Result, Ok, Err}
+use Rattle.std.specs.List.{AllByRecursion}
 use Rattle.snap_call.specs.declared.entry.Entry.{Entry}
 use Rattle.snap_call.specs.Journal.{session_entries}
 use Rattle.snap_tape.specs.Tapes.{SessionValue}
@@ -15,13 +16,13 @@ has_session_number n s = s.number == n
 
 -- the numbers of the sessions are 0 to n - 1, where n is how many they are, each once
 pub record AreOnce (sessions : List SessionValue) : Type 0 where
-  pub inside : All (λ s. s.number < length sessions) sessions
+  pub inside : AllByRecursion (λ s. s.number < length sessions) sessions
   pub once : (n : ℕ) → n < length sessions → count_by (has_session_number n) sessions ≡ 1
 
 -- the sessions are all those of the round: each once, and every entry of the journal is of one of them
 pub record AreAll (journal : List Entry) (sessions : List SessionValue) : Type 0 where
   pub once : AreOnce sessions
-  pub known : All (λ e. e.session < length sessions) journal
+  pub known : AllByRecursion (λ e. e.session < length sessions) journal
 
 -- ---- their tapes
 
@@ -49,17 +50,17 @@ IsBound journal m s = (place : ℕ) → IsMismatch journal place s → IsNotAfte
 -- the mismatch is that of one of the sessions, and none comes before it
 pub record IsFirst (journal : List Entry) (sessions : List SessionValue) (m : Mismatch) : Type 0 where
   pub there : Any (λ s. (s.number ≡ m.session) × IsMismatch journal m.place s) sessions
-  pub least : All (IsBound journal m) sessions
+  pub least : AllByRecursion (IsBound journal m) sessions
 
 -- the first mismatch of the sessions, or there is none
 abbrev pub IsFirstMismatch : List Entry → List SessionValue → Option Mismatch → Type 0
-IsFirstMismatch journal sessions None = All (IsOwn journal) sessions
+IsFirstMismatch journal sessions None = AllByRecursion (IsOwn journal) sessions
 IsFirstMismatch journal sessions (Some m) = IsFirst journal sessions m
 
 -- ---- both
 
 -- the sessions are all those of the round, and each tape is its session's own entries; or the first of the two fails; or the second, and this is the first mismatch
 abbrev pub IsCheck : List Entry → List SessionValue → Result Unit SessionsFault → Type 0
-IsCheck journal sessions (Ok done) = AreAll journal sessions × All (IsOwn journal) sessions
+IsCheck journal sessions (Ok done) = AreAll journal sessions × AllByRecursion (IsOwn journal) sessions
 IsCheck journal sessions (Err faults.Missing) = AreAll journal sessions → ⊥
 IsCheck journal sessions (Err (faults.Mismatch m)) = AreAll journal sessions × IsFirst journal sessions m

@@ -1,5 +1,6 @@
 // Whether the sessions that are handed in are all those of a round.
 ghost use Rattle.std.specs.Prelude.{◌≡◌, ℕ, ◌<◌, ◌↔◌, All, IfOk, IsTrue, IfSome, IfNone, IsSome, None, Some, if◌then◌else◌, count_by, length, slice_get, slice_set};
+ghost use Rattle.std.specs.List.{AllByRecursion};
 ghost use Rattle.snap_tape.specs.Sessions.{AreOnce, has_session_number};
 ghost use Rattle.snap_tape.specs.Following.{AreIndexes, index_in};
 
@@ -9,7 +10,7 @@ use std::alloc::{AllocError, Global};
 
 // Every entry is of one of so many sessions.
 pub(crate) fn are_known(journal: &[SharedEntry], sessions: usize) -> bool
-    ensures { IsTrue result ↔ All (λ e. e.session < sessions) journal.now }
+    ensures { IsTrue result ↔ AllByRecursion (λ e. e.session < sessions) journal.now }
 {
     journal
         .iter()
@@ -28,7 +29,7 @@ fn count_with(sessions: &[Session], number: u64) -> usize
 
 // The numbers are below so many.
 fn are_inside(sessions: &[Session]) -> bool
-    ensures { IsTrue result ↔ All (λ s. s.number < length sessions.now) sessions.now }
+    ensures { IsTrue result ↔ AllByRecursion (λ s. s.number < length sessions.now) sessions.now }
 {
     sessions
         .iter()

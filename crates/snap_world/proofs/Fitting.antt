@@ -29,11 +29,10 @@ use Rattle.snap_call.specs.Good.{Good}
 use Rattle.snap_call.specs.Journal.{call_entry}
 use Rattle.snap_call.specs.Records.{active_at, charge_of, has_children, has_key, has_records, is_active, is_committed, is_named, is_slot, recharged, record_at, relabelled, with_record, without_key, without_slot, committed_as, max_sessions}
 use Rattle.snap_call.specs.Forms.{is_key, is_limit, is_namespace, is_page, is_start}
-use Rattle.snap_call.specs.Reached.{unswept}
 use Rattle.snap_call.specs.State.{ancestors, is_taken, layers_of, most_ancestors, most_namespaces, place_of, shown_layers}
 use Rattle.snap_call.specs.Step.{are_formed, IsAllowed, IsCovered, IsOpenSlot, has_named, in_namespace, sweep, sweep_at, ask, charge, commit_as, committed as committed_state, discard, greater, one, prepared as prepared_state, refused, step, trim, place_for, slot_for, unless_refused, mounts, prepare_view, update_record, new_record, at_record}
 use Rattle.snap_call.specs.Steps.{lease_add, lease_create, lease_drop, lease_release, namespace_create, namespace_remove, set_limit, session, remove, update, walk_infos}
-use Rattle.snap_call.proofs.Parts.{namespace_remove_at, lease_add_record, lease_drop_at, charge_to, prepare_at, view_at, remove_record}
+use Rattle.snap_call.proofs.Parts.{namespace_remove_at, lease_add_record, lease_drop_at, charge_to, prepare_at, view_at, remove_record, unswept}
 use Rattle.snap_call.proofs.Alike.{AreAlike, bare, bare-relabelled, alike-active_at, alike-active_at_None, alike-layers}
 use Rattle.snap_call.proofs.Chains.{chain, Every, OnParent, every, on_parent, IsOther, Keeps, Keeps-after, Keeps-recharged, Keeps-with_record, Keeps-without_slot, chain-found, keeps-ancestors, keeps-without_key, on_other}
 use Rattle.snap_call.proofs.Keeping.{covers-Covers, good_chains, good_deep}

@@ -237,7 +237,7 @@ shares_few w fits place inside =
     let h = and_parts (nat_le limit.blocks 1099511627776) (nat_le limit.inodes 1099511627776) (fits.good.limits place inside) in
     let blocks = leb-true _ _ h.0 in
     let inodes = leb-true _ _ h.1 in
-    let within = fits.good.within place inside in
+    let within = fits.good.promised.within place inside in
     let covers = charge_covers w fits place in (
       (let p = within.blocks in let q = covers.blocks in omega arith),
       (let p = within.inodes in let q = covers.inodes in omega arith),

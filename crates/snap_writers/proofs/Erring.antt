@@ -92,4 +92,4 @@ module _ (j : Job) (s t : SessionValue) (old new : ActiveValue) (op : Op) where
 
   -- the entries of a run are those of an operation of the job
   pub run_tried : (result : Result Unit RunError) → HasRun s t old new op j.extra result → HasTried j s t old op result
-  run_tried result h = any_tried h.first result h.answer h.follows
+  run_tried result h = any_tried h.outcome result h.answer h.follows

@@ -9,7 +9,7 @@ use Rattle.snap_call.specs.Journal.{session_entries}
 use Rattle.snap_book.specs.Book.{BookValue}
 use Rattle.snap_tape.specs.Sessions.{IsOwn, has_session_number}
 use Rattle.snap_tape.specs.Tapes.{SessionValue}
-use Rattle.snap_tape.proofs.Counting.{stands}
+use Rattle.snap_tape.proofs.Counting.{all-there, stands}
 use Rattle.snap_grants.specs.Grants.{AreKeeping, AreOrigins, IsKeeping, Origin, Stored, grants, origin_in, sum_below, worth}
 use Rattle.snap_grants.proofs.Origins.{origins}
 use Rattle.snap_grants.proofs.Tapes.{own_origins, tapes_law}
@@ -29,15 +29,6 @@ use Rattle.snap_writers.proofs.Weaving.{Woven, own_woven, woven}
 
 -- ---- of each session
 
-all_rec : {A : Type 0} (P : A → Type 0) (xs : List A) → All P xs → AllByRecursion P xs
-all_rec P [] all = tt
-all_rec P (x ∷ xs) all = (All-head P x xs all, all_rec P xs (All-tail P x xs all))
-
-all_there : {A : Type 0} (P : A → Type 0) (xs : List A) (i : ℕ) (x : A) → AllByRecursion P xs → slice_get xs i ≡ Some x → P x
-all_there P [] i x all there = absurd (cc)
-all_there P (y ∷ ys) zero x all there = subst P (cc) all.0
-all_there P (y ∷ ys) (suc i) x all there = all_there P ys i x all.1 there
-
 -- each session of the workers has calls that take nothing away
 kept_with : (T : Type 0) (inodes : ℕ) (jobs : List Job) (es : List Ended) (o : Option SessionValue) (rest : List SessionValue) → HaveWorked T inodes jobs es o → AllByRecursion (λ s. AreKeeping s.tape) rest → AllByRecursion (λ s. AreKeeping s.tape) (cons_option o rest)
 kept_with T inodes jobs es None rest worked all = all
@@ -56,25 +47,25 @@ own_rest : (e : Entry) (es : List Entry) (k : ℕ) (b : Bool) → AreKeeping (co
 own_rest e es k true all = all.1
 own_rest e es k false all = all
 
-keeps_all : (n : ℕ) (es : List Entry) → All (λ e. e.session < n) es → ((k : ℕ) → k < n → AreKeeping (session_entries es k)) → AreKeeping es
+keeps_all : (n : ℕ) (es : List Entry) → AllByRecursion (λ e. e.session < n) es → ((k : ℕ) → k < n → AreKeeping (session_entries es k)) → AreKeeping es
 keeps_all n [] below each = tt
 keeps_all n (e ∷ es) below each = (
-  own_head e es (each e.session (All-head (λ x. x.session < n) e es below)),
-  keeps_all n es (All-tail (λ x. x.session < n) e es below) (λ k low. own_rest e es k (e.session == k) (each k low)),
+  own_head e es (each e.session below.0),
+  keeps_all n es below.1 (λ k low. own_rest e es k (e.session == k) (each k low)),
 )
 
 journal_keeps : (r : Round) (b : BookValue) (sessions : List SessionValue) → IsClosedStore r b sessions → AllByRecursion (λ s. AreKeeping s.tape) sessions → AreKeeping b.journal
 journal_keeps r b sessions closed keep = keeps_all (length sessions) b.journal closed.sessions.all.known of
   where
     own_are : AllByRecursion (IsOwn b.journal) sessions
-    own_are = all_rec (IsOwn b.journal) sessions closed.sessions.tapes
+    own_are = closed.sessions.tapes
 
     of : (k : ℕ) → k < length sessions → AreKeeping (session_entries b.journal k)
     of k low =
         let there = stands (has_session_number k) sessions (omega (arith, closed.sessions.all.once.once k low)) in
         let s = there.1 in
-        let tape : s.tape ≡ session_entries b.journal k = all_there (IsOwn b.journal) sessions there.0 s own_are there.2 ∙ ap (session_entries b.journal) (eqb-true s.number k there.3) in
-        subst AreKeeping tape (all_there (λ (x : SessionValue). AreKeeping x.tape) sessions there.0 s keep there.2)
+        let tape : s.tape ≡ session_entries b.journal k = all-there (IsOwn b.journal) sessions there.0 s there.2 own_are ∙ ap (session_entries b.journal) (eqb-true s.number k there.3) in
+        subst AreKeeping tape (all-there (λ (x : SessionValue). AreKeeping x.tape) sessions there.0 s there.2 keep)
 
 -- ---- what is stored, worker by worker
 
@@ -191,7 +182,7 @@ pub stores : {inodes : ℕ} → (S : ℕ → Type 0) (jobs : List Job) (workers 
 stores {inodes = inodes} S jobs workers ws ends r b some worked order closed = record { each = each_own; stored = all.stored; of = all.of; committed = law }
   where
     own_are : AllByRecursion (IsOwn b.journal) (sessions_of ws)
-    own_are = all_rec (IsOwn b.journal) (sessions_of ws) closed.sessions.tapes
+    own_are = closed.sessions.tapes
 
     keeps : AreKeeping b.journal
     keeps = journal_keeps r b (sessions_of ws) closed (sessions_keep S inodes jobs workers 0 ws worked.each)

@@ -1,8 +1,8 @@
 -- Sums over numbers below a bound, and over sessions, each of which has a number of its own.
-use Rattle.std.specs.Prelude.{◌==◌, All, cond, count_by}
+use Rattle.std.specs.Prelude.{◌==◌, cond, count_by}
+use Rattle.std.specs.List.{AllByRecursion}
 use Rattle.std.proofs.Common.{◌≡◌, ℕ, zero, suc, ◌+◌, ◌<◌, Bool, true, false, List, [], ◌∷◌, length, refl, sym, ap, ◌∙◌, arith}
 use Rattle.std.proofs.lemmas.Bool.{eqb-true, eq-eqb}
-use Rattle.std.proofs.lemmas.List.Elements.{All-head, All-tail}
 use Rattle.std.proofs.lemmas.List.Sums.{sum_by-cons}
 use Rattle.snap_tape.specs.Sessions.{AreOnce, has_session_number}
 use Rattle.snap_tape.specs.Tapes.{SessionValue}
@@ -27,11 +27,11 @@ abbrev held : (ℕ → ℕ) → List SessionValue → ℕ → ℕ
 held f [] k = 0
 held f (s ∷ ss) k = cond (s.number == k) (f s.number + held f ss k) (held f ss k)
 
-sum_held : (n : ℕ) (f : ℕ → ℕ) (ss : List SessionValue) → All (λ s. s.number < n) ss → sum_below n (held f ss) ≡ over f ss
+sum_held : (n : ℕ) (f : ℕ → ℕ) (ss : List SessionValue) → AllByRecursion (λ s. s.number < n) ss → sum_below n (held f ss) ≡ over f ss
 sum_held n f [] inside = nothing n
 sum_held n f (s ∷ ss) inside =
-    let rest = sum_held n f ss (All-tail (λ x. x.number < n) s ss inside) in
-    let all = sum_more n s.number (f s.number) (held f (s ∷ ss)) (held f ss) (All-head (λ x. x.number < n) s ss inside)
+    let rest = sum_held n f ss inside.1 in
+    let all = sum_more n s.number (f s.number) (held f (s ∷ ss)) (held f ss) inside.0
     (ap (λ (b : Bool). cond b (f s.number + held f ss s.number) (held f ss s.number)) (eq-eqb s.number s.number refl))
     (λ k other. ap (λ (b : Bool). cond b (f s.number + held f ss k) (held f ss k)) other) in
     omega (arith, rest, all)

@@ -45,10 +45,10 @@ Follows s t old new op extra (Err e) result = HasFailed s t old new op extra e (
 
 -- the first answer is the operation's within the share, or want of memory; where no names of a directory are listed, it is the operation's error where there is one, and never want of memory in its place
 pub record HasRun (s t : SessionValue) (old new : ActiveValue) (op : Op) (extra : Usage) (result : Result Unit RunError) : Type 0 where
-  pub first : Outcome
-  pub answer : (first ≡ Err (OutOfMemory no_memory)) ⊎ (first ≡ worked op old.share.usage old.layer old.lowers)
-  pub sure : lists_names op (old.layer ∷ old.lowers) ≡ false → IfErr (worked op old.share.usage old.layer old.lowers) (λ e. first ≡ Err e)
-  pub follows : Follows s t old new op extra first result
+  pub outcome : Outcome
+  pub answer : (outcome ≡ Err (OutOfMemory no_memory)) ⊎ (outcome ≡ worked op old.share.usage old.layer old.lowers)
+  pub first : lists_names op (old.layer ∷ old.lowers) ≡ false → IfErr (worked op old.share.usage old.layer old.lowers) (λ e. outcome ≡ Err e)
+  pub follows : Follows s t old new op extra outcome result
 
 -- the same snapshot: of the same namespace and key, over the same layers, in its slot under its id
 pub record IsSameSnapshot (old new : ActiveValue) : Type 0 where

@@ -12,9 +12,9 @@ returns-in-Ok-clause-run g c =
     let old = c.args.active.now in
     let done = c.in-Ok.ensures.ok in
     record {
-      first = Ok c.apply.new.self.layer;
+      outcome = Ok c.apply.new.self.layer;
       answer = inr (sym done);
-      sure = λ plain. no_error c.apply.new.self.layer (worked c.args.op.now old.share.usage old.layer old.lowers) done;
+      first = λ plain. no_error c.apply.new.self.layer (worked c.args.op.now old.share.usage old.layer old.lowers) done;
       follows = (refl, refl, c.in-Ok.ensures.same);
     }
 
@@ -31,9 +31,9 @@ returns-in-Some-clause-run g c =
     let charged = subst (λ (a : ActiveValue). HasCharged s t a new op c.in-Some.need c.wanted.result result) c.in-Err.ensures.unchanged c.charge_and_apply.ensures.charged in
     let wanted = subst (λ (u : Usage). HasCharged s t old new op c.in-Some.need u result) c.wanted.ensures charged in
     record {
-      first = Err e;
+      outcome = Err e;
       answer = as_outcome e outcome c.in-Err.ensures.error;
-      sure = λ plain. sure_outcome e outcome (c.in-Err.ensures.first plain);
+      first = λ plain. sure_outcome e outcome (c.in-Err.ensures.first plain);
       follows = subst (λ (o : Option Usage). HasFailed s t old new op c.args.extra e o result) c.in-Some.ensures wanted;
     }
 
@@ -46,8 +46,8 @@ returns-in-None-clause-run g c =
     let new = c.apply.new.self in
     let outcome = worked op old.share.usage old.layer old.lowers in
     record {
-      first = Err e;
+      outcome = Err e;
       answer = as_outcome e outcome c.in-Err.ensures.error;
-      sure = λ plain. sure_outcome e outcome (c.in-Err.ensures.first plain);
+      first = λ plain. sure_outcome e outcome (c.in-Err.ensures.first plain);
       follows = subst (λ (o : Option Usage). HasFailed s s old new op c.args.extra e o (Err (File e))) c.in-None.ensures (refl, refl, c.in-Err.ensures.unchanged);
     }

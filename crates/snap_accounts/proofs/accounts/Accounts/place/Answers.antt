@@ -45,4 +45,4 @@ returns-clause-within g c =
     let found = charge_at-issued c.args.slot s.records issued in
     let is = c.unwrap_or.ensures ∙ ap (λ (o : Option ℕ). unwrap_or o 0) c.place_in.ensures ∙ named (active_at c.args.slot s.records) ∙ ap place_if found.1 in
     let inside : c.unwrap_or.result < length s.namespaces = subst (λ (k : ℕ). k < length s.namespaces) (sym is) (place-of s c.args.slot found.0 c.self.invariant.good found.1) in
-    subst (λ (u : State). Covers (limit_at c.unwrap_or.result u.namespaces) (charge_of c.unwrap_or.result u.records)) c.self.view_is (c.self.invariant.good.within c.unwrap_or.result inside)
+    subst (λ (u : State). Covers (limit_at c.unwrap_or.result u.namespaces) (charge_of c.unwrap_or.result u.records)) c.self.view_is (c.self.invariant.good.promised.within c.unwrap_or.result inside)

@@ -3,7 +3,6 @@ use Rattle.snap_usage.specs.declared.usage.Usage.{Usage}
 use Rattle.snap_usage.specs.Counted.{Covers}
 use Rattle.snap_ledger.specs.States.{minus}
 use Rattle.snap_call.specs.declared.state.State.{State}
-use Rattle.snap_call.specs.Reached.{unswept}
 use Rattle.snap_call.specs.Records.{charge_of, open_count}
 use Rattle.snap_call.specs.Step.{swept_at}
 use Rattle.snap_call.proofs.Sweeping.{open_count-unswept, swept_covers}
@@ -11,6 +10,7 @@ use Rattle.snap_accounts.specs.Accounts.{AreAccounts}
 use Rattle.snap_accounts.specs.Changes.{IsSweepAt}
 use Rattle.snap_accounts.proofs.Sweeps.{accounts_swept, stay}
 use Rattle.snap_accounts.proofs.accounts.Accounts.sweep.Goals as goal
+use Rattle.snap_call.proofs.Parts.{unswept}
 
 pub difference-rest-requires : goal.difference-rest-requires
 difference-rest-requires g c =

@@ -2,10 +2,10 @@ use Rattle.std.proofs.Common.{◌∙◌, ◌≡◌, ◌++◌, ◌∷◌, [], fal
 use Rattle.std.specs.List.{AllByRecursion}
 use Rattle.std.specs.Map.{values_of}
 use Rattle.snap_lease.specs.Index.{AreNameCounts}
-use Rattle.snap_lease.specs.Lease.{Lease, empty_lease, NamesOnce}
+use Rattle.snap_lease.specs.Lease.{Lease, empty_lease, is_lease, NamesOnce}
 use Rattle.snap_lease.specs.Leases.{has_lease, AreDistinct, guards, naming_count}
 use Rattle.snap_lease.specs.Numbers.{AreNumbers}
-use Rattle.snap_lease.proofs.ListLemmas.{AreDistinct-push, NamesOnce-empty, all-push}
+use Rattle.snap_lease.proofs.ListLemmas.{IsDistinct-push, NamesOnce-empty, all-push, is_lease_comm}
 use Rattle.snap_lease.proofs.IndexLemmas.{counts-created, guards-empty}
 use Rattle.snap_lease.proofs.NumberLemmas.{insert_entry-last, numbers-back, numbers-created, values-push}
 use Rattle.snap_lease.proofs.list.Leases.create.Goals as goal
@@ -32,7 +32,7 @@ invariant_of-self-in_default c =
     let is : entry ≡ empty_lease c.args.namespace.now c.args.lease.now c.args.until = c.in_ok-entry.ensures in
     let new : has_lease (values_of es) entry.namespace entry.name ≡ false = ap (λ (l : Lease). has_lease (values_of es) l.namespace l.name) is ∙ absent c in
     let once : NamesOnce entry = subst NamesOnce (sym is) (NamesOnce-empty c.args.namespace.now c.args.lease.now c.args.until) in (
-      subst AreDistinct (sym (values c)) (AreDistinct-push (values_of es) entry c.self.invariant.0 new),
+      subst AreDistinct (sym (values c)) (IsDistinct-push (λ l. is_lease l.namespace l.name) is_lease_comm (values_of es) entry c.self.invariant.0 new),
       subst (AllByRecursion NamesOnce) (sym (values c)) (all-push NamesOnce (values_of es) entry c.self.invariant.1 once),
       counts c,
       subst (λ xs. AreNumbers xs c.put.new.self) (sym (items c))

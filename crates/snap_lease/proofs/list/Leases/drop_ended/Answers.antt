@@ -8,7 +8,7 @@ use Rattle.snap_lease.specs.Index.{AreNameCounts}
 use Rattle.snap_lease.specs.Numbers.{AreNumbers}
 use Rattle.snap_lease.proofs.CountLemmas.{CountsLive-without_ended}
 use Rattle.snap_lease.proofs.IndexLemmas.{counts-ended}
-use Rattle.snap_lease.proofs.ListLemmas.{AreDistinct-filter, all-filter}
+use Rattle.snap_lease.proofs.ListLemmas.{IsDistinct-filter, all-filter}
 use Rattle.snap_lease.proofs.NumberLemmas.{numbers-ended, values-filter}
 use Rattle.snap_lease.proofs.list.Leases.drop_ended.Goals as goal
 
@@ -23,7 +23,7 @@ pub invariant_of-self : goal.invariant_of-self
 invariant_of-self c =
     let es = c.self.inside.list.entries in
     let index = c.take_ended.new.numbers in (
-      subst AreDistinct (sym (values c)) (AreDistinct-filter _ _ c.self.invariant.0),
+      subst AreDistinct (sym (values c)) (IsDistinct-filter _ _ _ c.self.invariant.0),
       subst (AllByRecursion NamesOnce) (sym (values c)) (all-filter NamesOnce _ _ c.self.invariant.1),
       subst (λ ls. AreNameCounts ls c.take_ended.new.counts) (sym (values c))
           (counts-ended c.args.namespace.now c.args.now (values_of es) c.self.inside.counts c.take_ended.new.counts c.self.invariant.2 c.take_ended.ensures.counted),

@@ -1,5 +1,5 @@
 use Rattle.std.proofs.Common.{◌∙◌, ◌≡◌, ℕ, List, [], ap, subst, sym}
-use Rattle.std.specs.List.{AllByRecursion}
+use Rattle.std.specs.List.{AllByRecursion, IsDistinct}
 use Rattle.std.specs.Map.{values_of}
 use Rattle.snap_lease.specs.Lease.{Lease, NamesOnce}
 use Rattle.snap_lease.specs.Leases.{AreDistinct, naming_count}
@@ -8,6 +8,7 @@ use Rattle.snap_lease.proofs.NumberLemmas.{no_entries}
 use Rattle.snap_lease.proofs.list.Leases.new.Goals as goal
 
 pub invariant_of-result : goal.invariant_of-result
+unfolding IsDistinct
 invariant_of-result c =
     let none : c.new.result.entries ≡ [] = no_entries c.new.result.entries c.new.ensures.len in (
       subst (λ (es : List (ℕ × Lease)). AreDistinct (values_of es)) (sym none) tt,

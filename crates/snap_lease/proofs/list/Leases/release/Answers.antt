@@ -7,7 +7,7 @@ use Rattle.snap_lease.specs.Leases.{AreDistinct, has_lease, without_lease, Count
 use Rattle.snap_lease.specs.Numbers.{AreNumbers}
 use Rattle.snap_lease.proofs.CountLemmas.{CountsReleased-without_lease}
 use Rattle.snap_lease.proofs.IndexLemmas.{all-at, counts-released}
-use Rattle.snap_lease.proofs.ListLemmas.{AreDistinct-filter, all-filter}
+use Rattle.snap_lease.proofs.ListLemmas.{IsDistinct-filter, all-filter}
 use Rattle.snap_lease.proofs.NumberLemmas.{found_at_number, has_lease_at_number, numbers-released, removed_at_number, stands_at_number, values-released}
 use Rattle.snap_lease.proofs.list.Leases.release.Goals as goal
 
@@ -38,7 +38,7 @@ invariant_of-self c =
     let kept = c.remove.ensures.entries ∙ removed_at_number es c.self.inside.numbers namespace lease n c.self.invariant.4 c.self.invariant.0 c.self.invariant.3 c.in-Some.ensures in
     let counts = counts-released namespace lease (values_of es) at.place c.index.result.now c.index.result.now c.self.inside.counts c.take_counts.new.counts
     c.self.invariant.2 c.self.invariant.0 at.within at.passes at.at c.take_counts.ensures in (
-      subst AreDistinct (sym values) (AreDistinct-filter _ _ c.self.invariant.0),
+      subst AreDistinct (sym values) (IsDistinct-filter _ _ _ c.self.invariant.0),
       subst (AllByRecursion NamesOnce) (sym values) (all-filter NamesOnce _ _ c.self.invariant.1),
       subst (λ ls. AreNameCounts ls c.take_counts.new.counts) (sym values) counts,
       subst (λ xs. AreNumbers xs c.take.new.self) (sym kept) (numbers-released es c.self.inside.numbers c.take.new.self namespace lease c.self.invariant.3 c.take.ensures),
