@@ -27,7 +27,7 @@ counts_alone place (r ∷ rs) idle =
     λ i. plus (if r.namespace == place then same_counted r.content (omega (arith, idle, one)) i else no_usage) (counts_alone place rs (omega (arith, idle, one)) i)
 
 pub charged_counts : (s : State) → Good s → open_count s.records ≡ 0 → (place : ℕ) → charge_of place s.records ≡ sum_of counted_in place s.records
-charged_counts s good idle place = charge_is place s.records good.counted ∙ counts_alone place s.records idle
+charged_counts s good idle place = charge_is place s.records good.promised.counted ∙ counts_alone place s.records idle
 
 -- the same of a namespace that may be missing
 pub totals_alone : (found : Option ℕ) (rs : List Record) → open_count rs ≡ 0 → option_map (λ place. sum_of usage_taken place rs) found ≡ option_map (λ place. sum_of counted_in place rs) found

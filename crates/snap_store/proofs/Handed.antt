@@ -67,12 +67,12 @@ placed (Some place) P Q p q = (place, refl, p, q)
 
 -- ---- a view shows them, or one empty layer
 
-shown_or_empty : (ls : List Tree) (n : ℕ) → length ls ≡ n → (length (or_empty ls) ≡ n) ⊎ (or_empty ls ≡ root_only 493 1 ∷ [])
+shown_or_empty : (ls : List Tree) (n : ℕ) → length ls ≡ n → (length (or_empty ls) ≡ n) ⊎ (or_empty ls ≡ root_only (record { mode = 493 }) 1 ∷ [])
 shown_or_empty [] n e = inr refl
 shown_or_empty (l ∷ ls) n e = inl e
 
 pub view_shows : (place : ℕ) (parent : Bytes) (rs : List Record) (lowers : List Tree) → lowers ≡ shown_layers place parent rs
-    → (length lowers ≡ length (ids_of (ancestors place parent rs))) ⊎ (lowers ≡ root_only 493 1 ∷ [])
+    → (length lowers ≡ length (ids_of (ancestors place parent rs))) ⊎ (lowers ≡ root_only (record { mode = 493 }) 1 ∷ [])
 view_shows place parent rs lowers is =
-    subst (λ (l : List Tree). (length l ≡ length (ids_of (ancestors place parent rs))) ⊎ (l ≡ root_only 493 1 ∷ [])) (sym is)
+    subst (λ (l : List Tree). (length l ≡ length (ids_of (ancestors place parent rs))) ⊎ (l ≡ root_only (record { mode = 493 }) 1 ∷ [])) (sym is)
     (shown_or_empty (layers_of (ancestors place parent rs)) (length (ids_of (ancestors place parent rs))) (one_for_each place parent rs))

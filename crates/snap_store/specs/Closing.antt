@@ -1,5 +1,6 @@
 -- What a close finds of a book and the sessions that are handed in, and what is known of a closed store.
-use Rattle.std.specs.Prelude.{◌≡◌, ℕ, ◌<◌, List, map, filter, All, Option, None, Some, Ok, Err}
+use Rattle.std.specs.Prelude.{◌≡◌, ℕ, ◌<◌, List, map, filter, Option, None, Some, Ok, Err}
+use Rattle.std.specs.List.{AllByRecursion}
 use Rattle.snap_call.specs.declared.entry.Entry.{Entry}
 use Rattle.snap_call.specs.declared.state.State.{State}
 use Rattle.snap_call.specs.Good.{Good}
@@ -55,7 +56,7 @@ HasCause r sessions cause = (b : BookValue) × (round_of b ≡ r) × KeptBook b 
 -- the sessions are all those of the round, and each one's tape is its own entries of the journal
 pub record AreSessions (journal : List Entry) (sessions : List SessionValue) : Type 0 where
   pub all : AreAll journal sessions
-  pub tapes : All (IsOwn journal) sessions
+  pub tapes : AllByRecursion (IsOwn journal) sessions
 
 -- no snapshot is open, and what each namespace is charged is the sum of the blocks and inodes counted over its committed layers
 pub record IsSettled (s : State) : Type 0 where

@@ -1,8 +1,8 @@
 -- What the first example's tape makes of a new store, and that a journal of one session is its tape.
 use Rattle.std.proofs.Common.{◌≡◌, ℕ, ◌+◌, ◌<◌, Bool, List, [], ◌∷◌, Option, Some, refl, sym, ap, ◌∙◌, subst, arith}
 use Rattle.std.proofs.lemmas.Bool.{eq-eqb}
-use Rattle.std.proofs.lemmas.List.Elements.{All-head, All-tail}
-use Rattle.std.specs.Prelude.{All, codes, cond}
+use Rattle.std.specs.Prelude.{codes, cond}
+use Rattle.std.specs.List.{AllByRecursion}
 use Rattle.std.specs.Option.{option_map}
 use Rattle.snap_layer.specs.Tree.{Tree}
 use Rattle.snap_usage.specs.declared.usage.Usage.{Usage}
@@ -20,7 +20,6 @@ use Rattle.snap_call.specs.declared.call.Given.TheVariants.{Nothing}
 use Rattle.test_stores.specs.FirstExample.{after_prepare, first_config, first_tape, used}
 use Rattle.snap_call.specs.declared.entry.Entry.{Entry}
 use Rattle.snap_book.specs.Book.{BookValue}
-use Rattle.snap_tape.specs.Sessions.{IsOwn}
 use Rattle.snap_tape.specs.Tapes.{SessionValue}
 use Rattle.snap_store.specs.Closing.{AreSessions, KeptBook}
 
@@ -43,16 +42,16 @@ first_total n slot id chain layer t r count =
     let last = rest.2.2.2.2 in
     ap total last ∙ ap (λ (u : Usage). Some (used (u.blocks + 0) (u.inodes + 0))) count
 
-own_all : (es : List Entry) → All (λ e. e.session < 1) es → session_entries es 0 ≡ es
+own_all : (es : List Entry) → AllByRecursion (λ e. e.session < 1) es → session_entries es 0 ≡ es
 own_all [] all = refl
 own_all (e ∷ es) all =
-    let none : e.session ≡ 0 = omega (arith, All-head (λ x. x.session < 1) e es all) in
-    subst (λ (b : Bool). cond b (e ∷ session_entries es 0) (session_entries es 0) ≡ e ∷ es) (sym (eq-eqb e.session 0 none)) (ap (λ (l : List Entry). e ∷ l) (own_all es (All-tail (λ x. x.session < 1) e es all)))
+    let none : e.session ≡ 0 = omega (arith, all.0) in
+    subst (λ (b : Bool). cond b (e ∷ session_entries es 0) (session_entries es 0) ≡ e ∷ es) (sym (eq-eqb e.session 0 none)) (ap (λ (l : List Entry). e ∷ l) (own_all es all.1))
 
 pub one_session : (journal : List Entry) (s : SessionValue) → AreSessions journal (s ∷ []) → journal ≡ s.tape
 one_session journal s are =
-    let none : s.number ≡ 0 = omega (arith, All-head (λ (x : SessionValue). x.number < 1) s [] are.all.once.inside) in
-    sym (All-head (IsOwn journal) s [] are.tapes ∙ (ap (session_entries journal) none ∙ own_all journal are.all.known))
+    let none : s.number ≡ 0 = omega (arith, are.all.once.inside.0) in
+    sym (are.tapes.0 ∙ (ap (session_entries journal) none ∙ own_all journal are.all.known))
 
 pub closed_total : (b : BookValue) (s : SessionValue) (slot id : ℕ) (chain : List ℕ) (layer : Tree) → AreSessions b.journal (s ∷ []) → KeptBook b → b.opening ≡ opening first_config → s.tape ≡ first_tape s.number slot id chain layer → count_of layer ≡ used 4 3 → option_map (λ place. sum_of counted_in place b.state.records) (place_of (codes "a") b.state.namespaces) ≡ Some (used 4 3)
 closed_total b s slot id chain layer are kept began tape count =

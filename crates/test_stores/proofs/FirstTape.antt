@@ -31,7 +31,7 @@ is_done (Err e) = ⊥
 
 -- an operation that needs a charge and was done was charged for it
 charge_made : (s t : SessionValue) (old new : ActiveValue) (op : Op) (need : Usage) → HasRun s t old new op (used 0 0) (Ok tt) → worked op old.share.usage old.layer old.lowers ≡ Err (NeedsCharge need) → HasCharged s t old new op need (wanted_charge need (used 0 0)) (Ok tt)
-charge_made s t old new op need run needs = at run.first run.answer run.follows
+charge_made s t old new op need run needs = at run.outcome run.answer run.follows
   where
     at : (first : Outcome) → (first ≡ Err (OutOfMemory no_memory)) ⊎ (first ≡ worked op old.share.usage old.layer old.lowers) → Follows s t old new op (used 0 0) first (Ok tt) → HasCharged s t old new op need (wanted_charge need (used 0 0)) (Ok tt)
     at first (inl want) follows = absurd (subst is_done (subst (λ (o : Outcome). Follows s t old new op (used 0 0) o (Ok tt)) want follows).0 tt)
@@ -75,14 +75,14 @@ abbrev two_two : Usage
 two_two = used 2 2
 
 -- all three
-pub three : (slot id : ℕ) (s0 s1 s2 s3 : SessionValue) (a0 a1 a2 a3 : ActiveValue) → IsAt slot id (root_only 493 1) (used 1 1) a0
+pub three : (slot id : ℕ) (s0 s1 s2 s3 : SessionValue) (a0 a1 a2 a3 : ActiveValue) → IsAt slot id (root_only (record { mode = 493 }) 1) (used 1 1) a0
     → HasRun s0 s1 a0 a1 mkdir (used 0 0) (Ok tt) → HasRun s1 s2 a1 a2 create (used 0 0) (Ok tt) → HasRun s2 s3 a2 a3 write (used 0 0) (Ok tt)
     → IsAt slot id first_layer (used 4 3) a3 × (s3.number ≡ s0.number) × (s3.tape ≡ with_charges s0.number slot id s0.tape)
 unfolding first_layer
 three slot id s0 s1 s2 s3 a0 a1 a2 a3 at run1 run2 run3 =
-    let l1 = stepped mkdir (root_only 493 1) in
+    let l1 = stepped mkdir (root_only (record { mode = 493 }) 1) in
     let l2 = stepped create l1 in
-    let one = one_more slot id (root_only 493 1) l1 (used 1 1) (used 2 2) mkdir s0 s1 a0 a1 at run1 refl refl (λ now e. either now (used 2 2) e) refl in
+    let one = one_more slot id (root_only (record { mode = 493 }) 1) l1 (used 1 1) (used 2 2) mkdir s0 s1 a0 a1 at run1 refl refl (λ now e. either now (used 2 2) e) refl in
     let two = one_more slot id l1 l2 (used 2 2) (used 2 3) create s1 s2 a1 a2 one.0 run2 refl refl (λ now e. either now (used 2 3) e) refl in
     let last = one_more slot id l2 (stepped write l2) (used 2 3) (used 4 3) write s2 s3 a2 a3 two.0 run3 refl refl (λ now e. either now (used 4 3) e) refl in
     let n2 : s2.number ≡ s0.number = two.1 ∙ one.1 in (
@@ -93,7 +93,7 @@ three slot id s0 s1 s2 s3 a0 a1 a2 a3 at run1 run2 run3 =
           ∙ ap (λ (l : List Entry). l ++ charge_by s0.number slot id (used 2 3) ∷ []) one.2),
     )
 
-pub three_of : (slot id : ℕ) (s0 s1 s2 s3 : SessionValue) (a0 a1 a2 a3 : ActiveValue) (o1 o2 o3 : Op) → o1 ≡ mkdir → o2 ≡ create → o3 ≡ write → IsAt slot id (root_only 493 1) (used 1 1) a0
+pub three_of : (slot id : ℕ) (s0 s1 s2 s3 : SessionValue) (a0 a1 a2 a3 : ActiveValue) (o1 o2 o3 : Op) → o1 ≡ mkdir → o2 ≡ create → o3 ≡ write → IsAt slot id (root_only (record { mode = 493 }) 1) (used 1 1) a0
     → HasRun s0 s1 a0 a1 o1 (used 0 0) (Ok tt) → HasRun s1 s2 a1 a2 o2 (used 0 0) (Ok tt) → HasRun s2 s3 a2 a3 o3 (used 0 0) (Ok tt)
     → IsAt slot id first_layer (used 4 3) a3 × (s3.number ≡ s0.number) × (s3.tape ≡ with_charges s0.number slot id s0.tape)
 three_of slot id s0 s1 s2 s3 a0 a1 a2 a3 o1 o2 o3 m k w at r1 r2 r3 =

@@ -2,6 +2,7 @@
 use Rattle.std.proofs.Common.{◌≡◌, inl, inr, ℕ, Bool, true, false, List, [], ◌∷◌, ◌++◌, length, map, drop, get_or, Option, None, Some, Ok, sym, ap, ◌∙◌, subst, append-nil, arith}
 use Rattle.std.specs.List.{AllByRecursion, cons_option}
 use Rattle.std.proofs.lemmas.List.{append_cancel_left, length-map}
+use Rattle.std.proofs.lemmas.List.Elements.{All-from_recursion}
 use Rattle.snap_layer.specs.Tree.{Tree}
 use Rattle.snap_usage.specs.Counted.{count_of, no_usage}
 use Rattle.snap_usage.specs.declared.usage.Usage.{Usage}
@@ -23,16 +24,20 @@ use Rattle.snap_call.specs.State.{place_of}
 use Rattle.snap_call.specs.Step.{counted, in_namespace, refused}
 use Rattle.snap_record.specs.Records.{info_of}
 use Rattle.snap_record.specs.declared.record.Record.{Record}
-use Rattle.std.specs.Prelude.{if◌then◌else◌}
+use Rattle.std.specs.Prelude.{◌<◌, Any, if◌then◌else◌}
+use Rattle.std.specs.Fmt.{digits}
 use Rattle.std.specs.Option.{option_map_or}
+use Rattle.json.specs.Print.{escape_byte}
 use Rattle.snap_upper.specs.declared.op.Op.{Op}
 use Rattle.snap_upper.specs.After.{after}
 use Rattle.snap_book.specs.Active.{ActiveValue, fresh}
 use Rattle.snap_book.specs.Book.{BookValue}
 use Rattle.snap_book.specs.Wanted.{wanted_charge}
 use Rattle.snap_round.specs.declared.rule.Round.{Round}
+use Rattle.snap_tape.specs.Sessions.{IsMismatch}
 use Rattle.snap_tape.specs.Tapes.{SessionValue}
-use Rattle.snap_store.specs.declared.cause.Cause.TheVariants.{StillOut}
+use Rattle.snap_tape.specs.declared.mismatch.Mismatch.{Mismatch}
+use Rattle.snap_store.specs.declared.cause.Cause.TheVariants.{StillOut, TapeMismatch}
 use Rattle.snap_store.specs.Closing.{HasCause}
 use Rattle.snap_store.specs.Values.{IsAnswer, IsPrepared}
 use Rattle.snap_writers.specs.declared.job.End.{End}
@@ -44,6 +49,16 @@ use Rattle.snap_writers.specs.declared.job.Worked.{Worked}
 use Rattle.snap_writers.specs.Going.{HasEnded, HasRunJob, HasTried, Went}
 use Rattle.snap_writers.specs.Jobs.{AreEnds, AreInOrder, AreWorked, HasStoppedWorker, HasWorked, HaveWorked, IsCharge, IsEnded, IsReport, IsWorked, discard_entry, prepare_call, refused_entry, sessions_of}
 use Rattle.snap_writers.specs.Starting.{AreBack}
+use Rattle.snap_script.specs.Answers.{answer_line}
+use Rattle.snap_script.specs.declared.answer.Answer.TheVariants.{Jobs}
+use Rattle.snap_lines.specs.declared.stop.Stop.TheVariants.{OutputFailed}
+use Rattle.snap_jobs.specs.Answer.{HasNoReport, IsTextOf, answer_of}
+use Rattle.snap_jobs.specs.Asked.{answers_text}
+use Rattle.snap_jobs.specs.Ends.{end_lines, end_told}
+use Rattle.snap_jobs.specs.Lines.{ReadValue}
+use Rattle.snap_jobs.specs.declared.asked.Asked.{Asked}
+use Rattle.snap_jobs.specs.declared.run.JobOptions.{JobOptions}
+use Rattle.snap_jobs.specs.declared.stop.JobsStop.TheVariants.{Lines}
 
 -- ---- a store's calls
 
@@ -55,6 +70,13 @@ prepared_within inodes other old new namespace key parent labels a is of_other =
 -- `HasCause`: a store that can't be closed since snapshots are open names some
 pub open_ones_named : (r : Round) (sessions : List SessionValue) → HasCause r sessions (StillOut []) → ⊥
 open_ones_named r sessions (b, round, kept, why) = absurd (omega (arith, why.0, sym (length-map _ _) ∙ ap length (sym why.1)))
+
+-- and a mismatch that keeps it from being closed is one of a session that was handed in
+pub mismatch_of_given : (r : Round) (sessions : List SessionValue) (m : Mismatch) → HasCause r sessions (TapeMismatch m) → m.session < length sessions
+mismatch_of_given r sessions m (b, round, kept, (idle, (all, first))) = by first.there
+  where
+    by : Any (λ s. (s.number ≡ m.session) × IsMismatch b.journal m.place s) sessions → m.session < length sessions
+    by (k, s, inside, at, (number, differs)) = subst (λ n. n < length sessions) (ap (λ (t : SessionValue). t.number) at ∙ number) (All-from_recursion (λ t. t.number < length sessions) sessions all.once.inside k s inside)
 
 -- a reply to a stat
 abbrev is_of_stat : Reply → Type 0
@@ -251,3 +273,26 @@ none_not_run r j workers b is = by is.each.0
     by : IsEnded ((worker : ℕ) × ⊥) r.opening.layer_inodes j ended.NotRun → ⊥
     by (inl (n, mine, not_run)) = not_run.0.1
     by (inr never) = never
+
+-- ---- a script of jobs
+
+-- an answer that counts no job isn't that of one job's end
+one_is_counted : (b : BookValue) (names : List Bytes) (totals : List (Bytes × Usage)) (es : List Ended) → length es ≡ 1 → answer_line (Jobs 0 0 0 totals) ≡ answer_line (answer_of es b names) → ⊥
+unfolding answer_line escape_byte digits
+one_is_counted b names totals [] count e = absurd (omega (arith, count))
+one_is_counted b names totals (ended.Committed id usage ∷ []) count e = let wrong : 48 ≡ 49 = ap (λ (t : List ℕ). get_or t 13 0) e in absurd (omega (arith, wrong))
+one_is_counted b names totals (ended.Discarded ∷ []) count e = let wrong : 48 ≡ 49 = ap (λ (t : List ℕ). get_or t 27 0) e in absurd (omega (arith, wrong))
+one_is_counted b names totals (end ∷ []) count e = let wrong : 48 ≡ 49 = ap (λ (t : List ℕ). get_or t 39 0) e in absurd (omega (arith, wrong))
+one_is_counted b names totals (end ∷ more ∷ es) count e = absurd (omega (arith, count))
+
+-- `IsTextOf`: where one job was read and no end is told, the text counts one
+pub job_is_counted : (options : JobOptions) (read : ReadValue) (lacking : ℕ) (j : Job) (totals : List (Bytes × Usage)) → options.ends ≡ false → read.jobs ≡ j ∷ [] → read.questions ≡ []
+    → IsTextOf options read lacking (answer_line (Jobs 0 0 0 totals)) → ⊥
+job_is_counted options read lacking j totals quiet one none is =
+    let last = answer_line (answer_of is.ends is.closed read.names) in
+    let untold = ap (λ (b : Bool). (if b then end_lines (end_told options.fields read.jobs) 1 is.ends else []) ++ (answers_text options.fields is.closed.state read.questions ++ last)) quiet in
+    one_is_counted is.closed read.names totals is.ends (is.report.count ∙ ap length one) (is.lines ∙ untold ∙ ap (λ (asked : List Asked). answers_text options.fields is.closed.state asked ++ last) none)
+
+-- `HasNoReport`: a run of jobs that has no report isn't told as a failed write
+pub no_failed_write : (workers : ℕ) (r : Round) (jobs : List Job) → HasNoReport workers r jobs (Lines OutputFailed) → ⊥
+no_failed_write workers r jobs none = none

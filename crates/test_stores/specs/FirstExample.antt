@@ -46,7 +46,7 @@ stepped op t = layer_or (after op t []) t
 
 -- the layer after all three
 unfoldable pub first_layer : Tree
-first_layer = stepped write (stepped create (stepped mkdir (root_only 493 1)))
+first_layer = stepped write (stepped create (stepped mkdir (root_only (record { mode = 493 }) 1)))
 
 -- a usage, in blocks of 4096 bytes and inodes
 abbrev pub used : ℕ → ℕ → Usage

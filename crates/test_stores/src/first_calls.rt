@@ -106,7 +106,7 @@ fn viewed<N: StoreName, R: Abort>(rt: &R, alloc: Global, book: &mut Book<N>) -> 
 fn first_view<N: StoreName>(alloc: Global, book: &mut Book<N>) -> Result<Viewed, Refusal>
     requires { book.old.state ≡ new_store }
     ensures id { IfOk result (λ v. v.id ≡ 1) }
-    ensures lowers { IfOk result (λ v. v.lowers ≡ root_only 493 1 ∷ []) }
+    ensures lowers { IfOk result (λ v. v.lowers ≡ root_only (record { mode = 493 }) 1 ∷ []) }
 {
     book.view(0, "a", "q", "", &Labels::new(alloc))
 }

@@ -55,7 +55,7 @@ fn are_run<N: RoundName, R: Wait>(
     write: &Op,
 ) -> bool
     requires ops { (mkdir.now ≡ the_mkdir) × (create.now ≡ the_create) × (write.now ≡ the_write) }
-    requires at { IsAt active.old.share.slot active.old.share.id (root_only 493 1) (used 1 1) active.old }
+    requires at { IsAt active.old.share.slot active.old.share.id (root_only (record { mode = 493 }) 1) (used 1 1) active.old }
     ensures at { IsTrue result → IsAt active.old.share.slot active.old.share.id first_layer (used 4 3) active.new }
     ensures number { IsTrue result → session.new.number ≡ session.old.number }
     ensures tape { IsTrue result → session.new.tape ≡ with_charges session.old.number active.old.share.slot active.old.share.id session.old.tape }
