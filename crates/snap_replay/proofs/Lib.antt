@@ -1,1 +1,3 @@
+mod Acting
 mod Asking
+mod Declaring

@@ -1,5 +1,8 @@
--- The statuses of a server over a log; cited by a private clause alone, since a program has no other.
-use Rattle.std.specs.Prelude.{ℕ}
+-- What a server over a log does, and its statuses; cited by private clauses alone, since a program has no other.
+use Rattle.std.specs.Prelude.{ℕ, Bool, List, Option, Result, Ok, Err}
+use Rattle.sqlite_disk.specs.declared.Disk.{Ghosts}
+use Rattle.snap_log.specs.declared.log.Log.{Log}
+use Rattle.snap_durable.specs.Logged.{HasServedLog}
 use Rattle.snap_lines.specs.Words.{status_of}
 use Rattle.snap_replay.specs.declared.logged.LogStop.{LogStop}
 use Rattle.snap_replay.specs.declared.logged.LogStop.TheVariants.{Lines, WantOfMemory, Busy, Io, Refused, Unknown, Differs}
@@ -13,3 +16,13 @@ log_status_of (Io error) = 7
 log_status_of (Refused why) = 7
 log_status_of (Unknown error) = 8
 log_status_of (Differs sums) = 9
+
+-- 0 where it ended well, else the status of its end
+abbrev pub log_exit_of : Result (Unit {0}) LogStop → ℕ
+log_exit_of (Ok done) = 0
+log_exit_of (Err why) = log_status_of why
+
+module _ {D : Type 0} {g : Ghosts D} where
+  -- the lines of these bytes were served over the log, which was left as it then is
+  abbrev pub HasServedOver : Bool → List ℕ → Log D g → Option (List ℕ) → Option (List ℕ) → Type 0
+  HasServedOver rebases bytes log before after = (log_new : Log D g) × HasServedLog rebases bytes log before log_new after

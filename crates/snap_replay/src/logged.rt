@@ -1,6 +1,6 @@
 // `serve` over a log in a file.
-ghost use Rattle.std.specs.Prelude.{◌≡◌};
-ghost use Rattle.snap_replay.specs.Logged.{log_status_of};
+ghost use Rattle.std.specs.Prelude.{◌≡◌, IfSome, OnOk};
+ghost use Rattle.snap_replay.specs.Logged.{HasServedOver, log_status_of};
 
 use snap_durable::{Ended, ReplayError, Unserved, serve_log};
 use snap_lines::Stop;
@@ -8,7 +8,8 @@ use snap_log::{Log, OpenError};
 use snap_marks::{Difference, Differs, Sums};
 use sqlite_disk::{Disk, Files};
 use sqlite_std_file::{OpenError as FileError, Wary, open};
-use std::io::BufWriter;
+use std::alloc::Global;
+use std::io::{Read, Write};
 use std::{fmt, io};
 
 // Why a server over a log ended before the end of its input.
@@ -101,17 +102,17 @@ fn file_stop(error: io::Error) -> LogStop {
     }
 }
 
-fn lines_over<D: Disk + Drop, T: Input + Print + AllocGlobal>(
-    rt: &T,
+// Serves the lines of an input over a log.
+fn lines_over<D: Disk + Drop, R: Read, W: Write>(
+    alloc: Global,
     log: Log<D>,
     rebases: bool,
-) -> Result<(), LogStop> {
-    let alloc = rt.alloc();
-    let mut input = rt.reader();
-    let Ok(mut output) = BufWriter::new(alloc, io::writer(rt)) else {
-        return Err(LogStop::WantOfMemory);
-    };
-    match serve_log(alloc, log, rebases, &mut input, &mut output) {
+    input: &mut R,
+    output: &mut W,
+) -> Result<(), LogStop>
+    ensures { OnOk result (IfSome (R.remaining input.old) (λ bytes. HasServedOver rebases bytes log (W.contents output.old) (W.contents output.new))) }
+{
+    match serve_log(alloc, log, rebases, input, output) {
         Ok(_) => Ok(()),
         Err(Unserved::Replay(_, error)) => match error {
             ReplayError::Io(error) => Err(file_stop(error)),
@@ -126,8 +127,14 @@ fn lines_over<D: Disk + Drop, T: Input + Print + AllocGlobal>(
     }
 }
 
-// Serves the lines on standard input over the log in a file. Where its marks differ, it does so only if it rebases.
-pub(crate) fn serve_file(rt: &HostRuntime, path: &str, rebases: bool) -> Result<(), LogStop> {
+// Serves the lines of an input over the log in a file. Where its marks differ, it does so only if it rebases.
+pub(crate) fn serve_file<R: Read, W: Write>(
+    rt: &HostRuntime,
+    path: &str,
+    rebases: bool,
+    input: &mut R,
+    output: &mut W,
+) -> Result<(), LogStop> {
     let Files { log: _, db } = match open(rt, path, Wary) {
         Ok(files) => files,
         Err(FileError::Busy) => return Err(LogStop::Busy),
@@ -138,7 +145,7 @@ pub(crate) fn serve_file(rt: &HostRuntime, path: &str, rebases: bool) -> Result<
         Err(FileError::Io(error)) => return Err(file_stop(error)),
     };
     match Log::open(db) {
-        Ok(log) => lines_over(rt, log, rebases),
+        Ok(log) => lines_over(rt.alloc(), log, rebases, input, output),
         Err(failed) => match failed.why {
             OpenError::Io(error) => Err(file_stop(error)),
             why => Err(LogStop::Refused(why)),

@@ -7,13 +7,17 @@
 
 mod logged;
 
-ghost use Rattle.clap.specs.Words.{found_of, one_of, rows_of, subcommand_rows_of};
+ghost use Rattle.clap.specs.Words.{app_of, found_of, kind_of, one_of, rows_of, subcommand_rows_of};
+ghost use Rattle.clap.specs.declared.error.kind.ErrorKind.TheVariants.{OutOfMemory};
+ghost use Rattle.snap_replay.specs.Done.{HasDone, HasActed, IsRefusalStatus};
 ghost use Rattle.snap_replay.specs.Exit.{exit_of, status_of_end};
-ghost use Rattle.snap_replay.specs.Replayed.{HasReplayed, HasServed};
+ghost use Rattle.snap_replay.specs.Logged.{log_exit_of};
+ghost use Rattle.snap_replay.specs.Program.{IsDeclared, IsOption, beside_another, flag, command_found, are_words_taken, program, run_shape, serve_shape, valued, wanted_number, writers_shape};
+ghost use Rattle.snap_replay.specs.Replayed.{HasReplayed, HasRunJobs, HasServed};
 ghost use Rattle.snap_replay.specs.Tasks.{IsTask};
 ghost use Rattle.snap_replay.specs.Words.{IsAsked, IsNumberOf, field_rule_of, is_given, run_options_of, writers_of};
 ghost use Rattle.snap_replay.specs.declared.Task.TheVariants.{Writers};
-ghost use Rattle.std.specs.Prelude.{◌≡◌, ◌≤◌, IfOk, IfSome, Option, codes, option_map, ℕ};
+ghost use Rattle.std.specs.Prelude.{◌≡◌, ◌≤◌, IfErr, IfOk, IfSome, Option, codes, map, option_map, string_bytes, true, ℕ};
 
 use crate::logged::{LogStop, serve_file};
 use clap::error::ErrorKind as WordsErrorKind;
@@ -56,17 +60,6 @@ impl Ended {
     }
 }
 
-impl From<JobsStop> for Ended {
-    ghost use Rattle.std.specs.Prelude.{◌≡◌};
-    ghost use Rattle.snap_replay.specs.declared.Ended.TheVariants.{Stopped};
-
-    ghost from_gives = { λ stop e. e ≡ Stopped stop };
-
-    fn from(stop: JobsStop) -> Ended {
-        Ended::Stopped(stop)
-    }
-}
-
 impl fmt::Display for Ended {
     fn fmt<W: fmt::Write>(&self, f: &mut fmt::Formatter<W>) -> fmt::Result {
         match self {
@@ -82,62 +75,40 @@ fn replay_from<R: Read, W: Write>(
     input: &mut R,
     output: &mut W,
     options: RunOptions,
-) -> Result<(), JobsStop>
+) -> Result<(), Ended>
     ensures { IfSome (R.remaining input.old) (λ bytes. HasReplayed options bytes (R.remaining input.new) result (W.contents output.old) (W.contents output.new)) }
 {
     match replay(alloc, input, output, options) {
         Ok(()) => Ok(()),
-        Err(stop) => Err(JobsStop::Lines(stop)),
+        Err(stop) => Err(Ended::Stopped(JobsStop::Lines(stop))),
     }
 }
 
 // Answers the lines of an input.
-fn serve_from<R: Read, W: Write>(
-    alloc: Global,
-    input: &mut R,
-    output: &mut W,
-) -> Result<(), JobsStop>
+fn serve_from<R: Read, W: Write>(alloc: Global, input: &mut R, output: &mut W) -> Result<(), Ended>
     ensures { IfSome (R.remaining input.old) (λ bytes. HasServed bytes (R.remaining input.new) result (W.contents output.old) (W.contents output.new)) }
 {
     match serve(alloc, input, output) {
         Ok(()) => Ok(()),
-        Err(stop) => Err(JobsStop::Lines(stop)),
+        Err(stop) => Err(Ended::Stopped(JobsStop::Lines(stop))),
     }
 }
 
-fn replayed<T: Input + Print + AllocGlobal>(rt: &T, options: RunOptions) -> Result<(), Ended> {
-    let alloc = rt.alloc();
-    let mut input = rt.reader();
-    let Ok(mut output) = BufWriter::new(alloc, io::writer(rt)) else {
-        return Err(Ended::WantOfMemory);
-    };
-    replay_from(alloc, &mut input, &mut output, options)?;
-    Ok(())
-}
-
-fn lines_served<T: Input + Print + AllocGlobal>(rt: &T) -> Result<(), Ended> {
-    let alloc = rt.alloc();
-    let mut input = rt.reader();
-    let Ok(mut output) = BufWriter::new(alloc, io::writer(rt)) else {
-        return Err(Ended::WantOfMemory);
-    };
-    serve_from(alloc, &mut input, &mut output)?;
-    Ok(())
-}
-
-fn jobs_written<T: Threads + Wait + Sync + Input + Print + AllocGlobal>(
+// Runs the jobs of an input.
+fn jobs_from<T: Threads + Wait + Sync, R: Read, W: Write>(
     rt: &T,
+    alloc: Global,
+    input: &mut R,
+    output: &mut W,
     options: JobOptions,
 ) -> Result<(), Ended>
     requires { (1 ≤ options.workers) × (options.workers ≤ 16) }
+    ensures { IfSome (R.remaining input.old) (λ bytes. HasRunJobs options bytes (R.remaining input.new) result (W.contents output.old) (W.contents output.new)) }
 {
-    let alloc = rt.alloc();
-    let mut input = rt.reader();
-    let Ok(mut output) = BufWriter::new(alloc, io::writer(rt)) else {
-        return Err(Ended::WantOfMemory);
-    };
-    write_jobs(rt, alloc, &mut input, &mut output, options)?;
-    Ok(())
+    match write_jobs(rt, alloc, input, output, options) {
+        Ok(()) => Ok(()),
+        Err(stop) => Err(Ended::Stopped(stop)),
+    }
 }
 
 // The status of a run that ended so; the words for it go to standard error.
@@ -154,7 +125,9 @@ fn status<T: Eprint>(rt: &T, ended: Result<(), Ended>) -> u8
 }
 
 // The same of a server over a log.
-fn log_status<T: Eprint>(rt: &T, served: Result<(), LogStop>) -> u8 {
+fn log_status<T: Eprint>(rt: &T, served: Result<(), LogStop>) -> u8
+    ensures { result ≡ log_exit_of served }
+{
     match served {
         Ok(()) => 0,
         Err(why) => {
@@ -243,16 +216,38 @@ the store could not be closed.
 Example:
   printf '%s\n' '{"do":"open","root":"/r","namespaces":[["a",9,9]]}' '{"ns":"a","key":"k","parent":"","ops":[],"end":"discard"}' | snap_replay writers --workers 2"#;
 
+// An option that is given or not.
+fn flag<'a>(alloc: Global, name: &'a str, help: &'a str) -> Arg<'a>
+    ensures { IsOption (flag name.entry.now) result }
+{
+    Arg::new(alloc, name)
+        .long(name)
+        .help(help)
+        .action(ArgAction::SetTrue)
+}
+
+// An option with a value, of which help says this.
+fn valued<'a>(alloc: Global, name: &'a str, value: &'a str, help: &'a str) -> Arg<'a>
+    ensures { IsOption (valued name.entry.now) result }
+{
+    Arg::new(alloc, name)
+        .long(name)
+        .value_name(value)
+        .help(help)
+        .action(ArgAction::Set)
+}
+
 // The command `run`.
-fn run_command<'a>(alloc: Global) -> Result<Command<'a>, Error> {
-    let strict = Arg::new(alloc, STRICT)
-        .long(STRICT)
-        .help("A field that a command doesn't have is a fault")
-        .action(ArgAction::SetTrue);
-    let stop = Arg::new(alloc, STOP)
-        .long(STOP)
-        .help("Ends at the first refusal, with status 5")
-        .action(ArgAction::SetTrue);
+fn run_command<'a>(alloc: Global) -> Result<Command<'a>, Error>
+    ensures declared { IfOk result (IsDeclared run_shape) }
+    ensures refused { IfErr result (λ e. kind_of e ≡ OutOfMemory) }
+{
+    let strict = flag(
+        alloc,
+        STRICT,
+        "A field that a command doesn't have is a fault",
+    );
+    let stop = flag(alloc, STOP, "Ends at the first refusal, with status 5");
     let run = Command::new(alloc, "run")
         .about("Replays a script: reads a command a line, writes an answer a line")
         .after_help(RUN_HELP)
@@ -261,57 +256,79 @@ fn run_command<'a>(alloc: Global) -> Result<Command<'a>, Error> {
     Ok(run)
 }
 
+// The option that says how many workers there are.
+fn workers_option<'a>(alloc: Global) -> Arg<'a>
+    ensures { IsOption (wanted_number (codes "workers")) result }
+{
+    valued(
+        alloc,
+        WORKERS,
+        "N",
+        "How many threads run the jobs, 1 to 16",
+    )
+    .required(true)
+    .value_parser(value_parser!(u32).range(1..=MAX_WORKERS as i64))
+}
+
 // The command `writers`.
-fn writers_command<'a>(alloc: Global) -> Result<Command<'a>, Error> {
-    let workers = Arg::new(alloc, WORKERS)
-        .long(WORKERS)
-        .value_name("N")
-        .help("How many threads run the jobs, 1 to 16")
-        .required(true)
-        .action(ArgAction::Set)
-        .value_parser(value_parser!(u32).range(1..=MAX_WORKERS as i64));
-    let ends = Arg::new(alloc, ENDS)
-        .long(ENDS)
-        .help("Writes a line for each job: how it ended")
-        .action(ArgAction::SetTrue);
-    let strict = Arg::new(alloc, STRICT)
-        .long(STRICT)
-        .help("A field that a job or an operation doesn't have is a fault")
-        .action(ArgAction::SetTrue);
+fn writers_command<'a>(alloc: Global) -> Result<Command<'a>, Error>
+    ensures declared { IfOk result (IsDeclared writers_shape) }
+    ensures refused { IfErr result (λ e. kind_of e ≡ OutOfMemory) }
+{
+    let ends = flag(alloc, ENDS, "Writes a line for each job: how it ended");
+    let strict = flag(
+        alloc,
+        STRICT,
+        "A field that a job or an operation doesn't have is a fault",
+    );
     let writers = Command::new(alloc, "writers")
         .about("Runs jobs on threads: reads a store and jobs, writes one line at the end")
         .after_help(WRITERS_HELP)
-        .arg(workers)?
+        .arg(workers_option(alloc))?
         .arg(ends)?
         .arg(strict)?;
     Ok(writers)
 }
 
+// The option by which a log's marks are compared anew, which needs a log.
+fn rebase_option<'a>(alloc: Global) -> Result<Arg<'a>, Error>
+    ensures declared { IfOk result (IsOption (beside_another (flag (codes "rebase")))) }
+    ensures refused { IfErr result (λ e. kind_of e ≡ OutOfMemory) }
+{
+    let rebase = flag(
+        alloc,
+        REBASE,
+        "Takes the log's lines as they are, with the answers that they have now",
+    );
+    Ok(rebase.requires_arg(LOG)?)
+}
+
 // The command `serve`.
-fn serve_command<'a>(alloc: Global) -> Result<Command<'a>, Error> {
-    let log = Arg::new(alloc, LOG)
-        .long(LOG)
-        .value_name("FILE")
-        .help(
-            "Keeps each line that changes the store in this file before it is answered, and begins with those there",
-        )
-        .action(ArgAction::Set);
-    let rebase = Arg::new(alloc, REBASE)
-        .long(REBASE)
-        .help("Takes the log's lines as they are, with the answers that they have now")
-        .action(ArgAction::SetTrue)
-        .requires_arg(LOG)?;
+fn serve_command<'a>(alloc: Global) -> Result<Command<'a>, Error>
+    ensures declared { IfOk result (IsDeclared serve_shape) }
+    ensures refused { IfErr result (λ e. kind_of e ≡ OutOfMemory) }
+{
+    let log = valued(
+        alloc,
+        LOG,
+        "FILE",
+        "Keeps each line that changes the store in this file before it is answered, and begins with those there",
+    );
     let serve = Command::new(alloc, "serve")
         .about(
             "Serves a client: reads a command a line, answers every line and goes on after faults",
         )
         .after_help(SERVE_HELP)
         .arg(log)?
-        .arg(rebase)?;
+        .arg(rebase_option(alloc)?)?;
     Ok(serve)
 }
 
-fn command<'a>(alloc: Global) -> Result<Command<'a>, Error> {
+// The program's commands.
+fn command<'a>(alloc: Global) -> Result<Command<'a>, Error>
+    ensures declared { IfOk result (λ c. app_of c ≡ program) }
+    ensures refused { IfErr result (λ e. kind_of e ≡ OutOfMemory) }
+{
     let program = Command::new(alloc, "snap_replay")
         .about("A container snapshotter with an exact usage ledger")
         .version(VERSION)
@@ -324,7 +341,10 @@ fn command<'a>(alloc: Global) -> Result<Command<'a>, Error> {
 
 // What clap finds in the words, the program's name first, or its refusal of them. A call for help or for the version is
 // a refusal too. Takes memory.
-fn matches_of<'a>(alloc: Global, words: &'a [String]) -> Result<ArgMatches<'a>, Error> {
+fn matches_of<'a>(alloc: Global, words: &'a [String]) -> Result<ArgMatches<'a>, Error>
+    ensures found { IfOk result (λ matches. subcommand_rows_of matches ≡ command_found (map string_bytes words.now)) }
+    ensures refused { IfErr result (λ e. are_words_taken (map string_bytes words.now) ≡ true → kind_of e ≡ OutOfMemory) }
+{
     Ok(command(alloc)?.try_get_matches_from(words)?)
 }
 
@@ -393,24 +413,31 @@ fn chosen<'a>(matches: &'a ArgMatches<'_>) -> Option<Task<'a>>
     }
 }
 
-// Does what is asked for.
-fn done<T: Threads + Wait + Sync + Input + Print + Eprint + AllocGlobal>(
+// Does what is asked for, over these streams.
+#[tactic(auto, using(crate::proofs::Acting::run_done, crate::proofs::Acting::serve_done, crate::proofs::Acting::jobs_done))]
+fn done<T: Threads + Wait + Sync + Eprint + AllocGlobal, R: Read, W: Write>(
     rt: &T,
     files: &HostRuntime,
+    input: &mut R,
+    output: &mut W,
     task: Option<Task<'_>>,
 ) -> u8
     requires { IfSome task IsTask }
+    ensures { IfSome (R.remaining input.old) (λ bytes. HasDone task.entry bytes (R.remaining input.new) result (W.contents output.old) (W.contents output.new)) }
 {
+    let alloc = rt.alloc();
     match task {
-        Some(Task::Run { options }) => status(rt, replayed(rt, options)),
-        Some(Task::Serve { log: None, .. }) => status(rt, lines_served(rt)),
+        Some(Task::Run { options }) => status(rt, replay_from(alloc, input, output, options)),
+        Some(Task::Serve { log: None, .. }) => status(rt, serve_from(alloc, input, output)),
         Some(
             Task::Serve {
                 log: Some(path),
                 rebases,
             },
-        ) => log_status(rt, serve_file(files, path, rebases)),
-        Some(Task::Writers { options }) => status(rt, jobs_written(rt, options)),
+        ) => log_status(rt, serve_file(files, path, rebases, input, output)),
+        Some(Task::Writers { options }) => {
+            status(rt, jobs_from(rt, alloc, input, output, options))
+        }
         None => {
             let _ = rt.eprintln("error: no command");
             BAD_WORDS
@@ -418,31 +445,48 @@ fn done<T: Threads + Wait + Sync + Input + Print + Eprint + AllocGlobal>(
     }
 }
 
-// Does what the words ask for.
-fn run<T: Threads + Wait + Sync + Input + Print + Eprint + AllocGlobal>(
-    rt: &T,
-    files: &HostRuntime,
-    words: &[String],
-) -> u8 {
-    match matches_of(rt.alloc(), words) {
-        Ok(matches) => done(rt, files, chosen(&matches)),
-        Err(error) if error.kind() == WordsErrorKind::OutOfMemory => {
-            status(rt, Err(Ended::WantOfMemory))
-        }
-        Err(error) if error.use_stderr() => {
-            let _ = rt.eprint(&error);
-            BAD_WORDS
-        }
-        Err(shown) => match rt.print(&shown) {
+// The status of words that clap refuses; its text goes to standard error, or to standard output where they call for it.
+fn refused<T: Print + Eprint>(rt: &T, error: &Error) -> u8
+    ensures { IsRefusalStatus (kind_of error.now) result }
+{
+    match error.kind() {
+        WordsErrorKind::OutOfMemory => status(rt, Err(Ended::WantOfMemory)),
+        WordsErrorKind::DisplayHelp | WordsErrorKind::DisplayVersion => match rt.print(error) {
             Ok(()) => 0,
             Err(_) => status(rt, Err(Ended::Stopped(JobsStop::Lines(Stop::OutputFailed)))),
         },
+        _ => {
+            let _ = rt.eprint(error);
+            BAD_WORDS
+        }
+    }
+}
+
+// Does what the words ask for, over these streams.
+#[tactic(auto, using(crate::proofs::Acting::acted, crate::proofs::Acting::words_refused))]
+fn run<T: Threads + Wait + Sync + Print + Eprint + AllocGlobal, R: Read, W: Write>(
+    rt: &T,
+    files: &HostRuntime,
+    words: &[String],
+    input: &mut R,
+    output: &mut W,
+) -> u8
+    ensures { IfSome (R.remaining input.old) (λ bytes. HasActed (map string_bytes words.now) bytes (R.remaining input.new) result (W.contents output.old) (W.contents output.new)) }
+{
+    match matches_of(rt.alloc(), words) {
+        Ok(matches) => done(rt, files, input, output, chosen(&matches)),
+        Err(error) => refused(rt, &error),
     }
 }
 
 fn main(rt: HostRuntime) -> ExitCode {
-    match words_of(&rt) {
-        Ok(words) => ExitCode::from(run(&rt, &rt, words.as_slice())),
-        Err(status) => ExitCode::from(status),
-    }
+    let words = match words_of(&rt) {
+        Ok(words) => words,
+        Err(status) => return ExitCode::from(status),
+    };
+    let mut input = rt.reader();
+    let Ok(mut output) = BufWriter::new(rt.alloc(), io::writer(&rt)) else {
+        return ExitCode::from(status(&rt, Err(Ended::WantOfMemory)));
+    };
+    ExitCode::from(run(&rt, &rt, words.as_slice(), &mut input, &mut output))
 }
