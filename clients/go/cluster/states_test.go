@@ -306,7 +306,9 @@ func TestRefused(t *testing.T) {
 		return must(w.client.Get(ctx, w.operator.keys.present(gone)))(t).Count == 0
 	})
 	until(t, "the report", func() bool {
-		return must(w.operator.Quota(ctx, "a"))(t).Holdings[2].Bound == usage(30, 30)
+		// The store's own limit may be told before what it is charged under it.
+		two := must(w.operator.Quota(ctx, "a"))(t).Holdings[2]
+		return two.Bound == usage(30, 30) && two.Idle == usage(10, 10)
 	})
 	err := one.take("a", "l", usage(90, 1))
 	var refused *Refused

@@ -97,6 +97,8 @@ func choicesOf(it command, operand string) string {
 		}
 	case "SHELL":
 		return "bash zsh fish"
+	case "FILE", "OTHER":
+		return "@FILES"
 	}
 	return ""
 }
@@ -128,7 +130,7 @@ _pibroulez()
     fi
     COMPREPLY=()
     case $taking in
-    --socket|--root|--cacert|--cert|--key)
+    --socket|--root|--program|--cacert|--cert|--key)
         compopt -o filenames
         mapfile -t COMPREPLY < <(compgen -f -- "$current")
         return ;;
@@ -140,6 +142,11 @@ _pibroulez()
     case $ended$current in
     -*) choices=$options ;;
     esac
+    if [ "$choices" = @FILES ]; then
+        compopt -o filenames
+        mapfile -t COMPREPLY < <(compgen -f -- "$current")
+        return
+    fi
     mapfile -t COMPREPLY < <(compgen -W "$choices" -- "$current")
 }
 complete -F _pibroulez pibroulez
@@ -170,13 +177,14 @@ _pibroulez()
     (--*=*) taking=${word%%=*}; compset -P '*=' ;;
     esac
     case $taking in
-    (--socket|--root|--cacert|--cert|--key) _files; return ;;
+    (--socket|--root|--program|--cacert|--cert|--key) _files; return ;;
     (?*) return 1 ;;
     esac
     case $before in
 @CASES    esac
     [[ $choices = @TENANTS ]] && choices=$(pibroulez ${socket:+--socket=$socket} completion tenants 2>/dev/null)
     [[ $ended$word = -* ]] && choices=$options
+    [[ $choices = @FILES ]] && { _files; return; }
     compadd -- ${=choices}
 }
 if [[ $funcstack[1] = _pibroulez ]]; then
@@ -216,12 +224,12 @@ function __pibroulez_choices
     if string match -q -- '--*=*' "$ended$current"
         set taking (string replace -r -- '=.*' '' $current)
         set -l begin (string replace -r -- '=.*' '=' $current)
-        contains -- $taking --socket --root --cacert --cert --key
+        contains -- $taking --socket --root --program --cacert --cert --key
         and string replace -r -- '^' $begin (__fish_complete_path (string replace -r -- '^[^=]*=' '' $current))
         return
     end
     if test -n "$taking"
-        contains -- $taking --socket --root --cacert --cert --key; and __fish_complete_path $current
+        contains -- $taking --socket --root --program --cacert --cert --key; and __fish_complete_path $current
         return
     end
     set -l both (sh -c 'case $1 in
@@ -229,6 +237,8 @@ function __pibroulez_choices
     printf "%s\n%s\n" "$options" "$choices"' sh $before)
     if string match -q -- '-*' "$ended$current"
         string split -n ' ' -- $both[1]
+    else if test "$both[2]" = @FILES
+        __fish_complete_path $current
     else if test "$both[2]" = @TENANTS
         test -n "$socket"; and set socket --socket=$socket
         pibroulez $socket completion tenants 2>/dev/null

@@ -63,6 +63,7 @@ var typed = []struct{ keys, want string }{
 	{"--socket SOCKET\t lim\tal\t 1/1", "[--socket][SOCKET][limit][alpha][1/1]"},
 	{"--socket=SOCKET lim\tal\t 1/1", "[--socket=SOCKET][limit][alpha][1/1]"},
 	{"--cac\tFOLDER/ca\t qu\t", "[--cacert][FOLDER/ca.pem][quota]"},
+	{"log-d\tFOLDER/ca\t FOLDER/ca\t --pr\tFOLDER/ca\t", "[log-diff][FOLDER/ca.pem][FOLDER/ca.pem][--program][FOLDER/ca.pem]"},
 }
 
 // A terminal with a shell behind it, and what the shell has written to it.
@@ -198,6 +199,7 @@ func TestCompletionOfFish(t *testing.T) {
 		{"journal --full --la", "--last"}, {"journal --last 5 al", "alpha"}, {"--json tree al", "alpha"}, {"-- quota al", "alpha"},
 		{"completion ", "bash fish zsh"}, {"--socket SOCKET limit al", "alpha"}, {"--socket=SOCKET limit al", "alpha"},
 		{"--cacert FOLDER/ca", "FOLDER/ca.pem"}, {"--cacert=FOLDER/ca", "--cacert=FOLDER/ca.pem"}, {"--last ", ""},
+		{"log-check FOLDER/ca", "FOLDER/ca.pem"},
 	} {
 		script += fmt.Sprintf("complete -C 'pibroulez %s' | string replace -r '\\t.*' '' | sort | string join ' '; echo\n", places.Replace(it[0]))
 		want += it[0] + ": " + places.Replace(it[1]) + "\n"

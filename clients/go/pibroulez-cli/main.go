@@ -33,7 +33,9 @@ type words struct {
 	isFull bool
 	isTry  bool
 	root   string
-	etcd   etcdWords
+	// The program that carries out the lines of logs.
+	program string
+	etcd    etcdWords
 	// Whether the operator says that a store's data are destroyed.
 	isDestroyed bool
 	// Whether the operator says that all stores have registered.
@@ -115,6 +117,7 @@ func read(args []string) (words, error) {
 	flags.BoolVar(&given.isFull, "full", false, "")
 	flags.BoolVar(&given.isTry, "try", false, "")
 	flags.StringVar(&given.root, "root", "/var/lib/pibroulez", "")
+	flags.StringVar(&given.program, "program", "snap_replay", "")
 	flags.BoolVar(&given.isDestroyed, "data-destroyed", false, "")
 	flags.BoolVar(&given.areRegistered, "all-registered", false, "")
 	given.etcd.define(flags)

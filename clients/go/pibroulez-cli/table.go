@@ -43,6 +43,12 @@ func init() {
 			"what a snapshot takes by the ledger, by its directory and by the file system, and the paths that",
 			"make the difference; as root of the daemon's machine",
 		}, onStore(audit)},
+		{"log-check", "FILE", []string{"program"}, false, []string{
+			"whether a log is whole, and what the store that it tells has of each tenant; without the daemon",
+		}, onLogs(logCheck)},
+		{"log-diff", "FILE OTHER", []string{"program"}, false, []string{
+			"in which limits, snapshots and leases the stores of two logs differ; without the daemon",
+		}, onLogs(logDiff)},
 		{"completion", "SHELL", nil, false, []string{"the words by which bash, zsh or fish complete this command"}, completion},
 
 		{"cluster quota", "[TENANT]", nil, true, []string{"limit, granted, charged and idle of each node, and how long ago it told"}, onCluster(clusterQuota)},
@@ -106,12 +112,15 @@ func (c command) options() []string {
 	if c.ofCluster {
 		return append([]string{"json", "endpoints", "cacert", "cert", "key", "prefix"}, c.own...)
 	}
+	if strings.HasPrefix(c.name, "log-") {
+		return append([]string{"json"}, c.own...)
+	}
 	return append([]string{"json", "socket"}, c.own...)
 }
 
 // What an option takes, where it isn't one that is there or not.
 var takes = map[string]string{
-	"socket": "PATH", "last": "N", "endpoints": "URLS", "cacert": "FILE", "cert": "FILE", "key": "FILE", "prefix": "KEY", "root": "PATH",
+	"socket": "PATH", "last": "N", "endpoints": "URLS", "cacert": "FILE", "cert": "FILE", "key": "FILE", "prefix": "KEY", "root": "PATH", "program": "PATH",
 }
 
 // The options as the help tells them, and what it says.
@@ -122,6 +131,7 @@ var optionTells = [][2]string{
 	{"--cacert FILE, --cert FILE, --key FILE", "etcd's authority, and the certificate and key that it asks for"},
 	{"--prefix KEY", "what the keys begin with (/pibroulez)"},
 	{"--root PATH", "the daemon's root, which has the snapshots' directories (/var/lib/pibroulez)"},
+	{"--program PATH", "the program that carries out a log's lines (snap_replay)"},
 	{"--", "what follows is no option"},
 	{"--help, --version", "tell, and end"},
 }
