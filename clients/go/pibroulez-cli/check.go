@@ -62,14 +62,19 @@ func look(ctx context.Context, store *pibroulez.Store) (*seen, error) {
 func (s *seen) answer() answer {
 	faults := s.faults()
 	it := answer{value: map[string]any{"tenants": len(s.quotas), "snapshots": s.report.Records, "faults": faults}}
+	s.tell(&it, "", faults)
+	return it
+}
+
+// Has an answer tell the faults, and then in a line how many there are.
+func (s *seen) tell(it *answer, before string, faults []string) {
 	for _, fault := range faults {
 		it.words += fault + "\n"
 	}
-	it.words += fmt.Sprintf("%d tenants, %d snapshots, %d faults\n", len(s.quotas), s.report.Records, len(faults))
+	it.words += fmt.Sprintf("%s%d tenants, %d snapshots, %d faults\n", before, len(s.quotas), s.report.Records, len(faults))
 	if len(faults) > 0 {
 		it.fault = errFaults
 	}
-	return it
 }
 
 // What doesn't fit together, in words.

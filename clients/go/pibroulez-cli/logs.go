@@ -20,6 +20,9 @@ var (
 	errNoRegular = errors.New("it is no regular file")
 )
 
+// How many bytes are copied before it is asked again whether they are wanted.
+const mostCopied = 64 << 20
+
 // A command on the stores of logs: each log is copied, so that it stays as it is, and another process may have it meanwhile,
 // and a process over the copy carries out its lines.
 func onLogs(do func(context.Context, []*pibroulez.Store) (answer, error)) func(context.Context, words) (answer, error) {
@@ -44,7 +47,7 @@ func onLogs(do func(context.Context, []*pibroulez.Store) (answer, error)) func(c
 
 // The store that a log tells, by a process over a copy.
 func storeOfLog(ctx context.Context, program, path, copied string) (*pibroulez.Store, error) {
-	if err := copyFile(path, copied); err != nil {
+	if err := copyFile(ctx, path, copied); err != nil {
 		return nil, err
 	}
 	store, err := pibroulez.Open(ctx, program, copied)
@@ -58,7 +61,7 @@ func storeOfLog(ctx context.Context, program, path, copied string) (*pibroulez.S
 }
 
 // A log's text only grows, and a byte that is written last says how far it goes, so a copy is a log too while lines are added.
-func copyFile(from, to string) error {
+func copyFile(ctx context.Context, from, to string) error {
 	info, err := os.Stat(from)
 	if err != nil {
 		return err
@@ -75,7 +78,12 @@ func copyFile(from, to string) error {
 	if err != nil {
 		return err
 	}
-	if _, err = io.Copy(target, source); err != nil {
+	for err == nil {
+		if err = ctx.Err(); err == nil {
+			_, err = io.CopyN(target, source, mostCopied)
+		}
+	}
+	if err != io.EOF {
 		target.Close()
 		return err
 	}
@@ -116,16 +124,7 @@ func logCheck(ctx context.Context, stores []*pibroulez.Store) (answer, error) {
 	}
 	faults := s.faults()
 	it.value = map[string]any{"entries": s.report.Entries, "faults": faults, "snapshots": s.report.Records, "tenants": tenants}
-	for _, fault := range faults {
-		it.words += fault + "\n"
-	}
-	it.words += fmt.Sprintf(
-		"the log is whole: %d entries of its last round, %d tenants, %d snapshots, %d faults\n",
-		s.report.Entries, len(tenants), s.report.Records, len(faults),
-	)
-	if len(faults) > 0 {
-		it.fault = errFaults
-	}
+	s.tell(&it, fmt.Sprintf("the log is whole: %d entries of its last round, ", s.report.Entries), faults)
 	return it, nil
 }
 
@@ -222,17 +221,12 @@ func snapshotsOf(ctx context.Context, store *pibroulez.Store, tenant string) (ma
 		usages[it.Key] = it.Usage
 	}
 	all := map[string]any{}
-	for after := ""; ; {
-		page, err := store.Walk(ctx, tenant, after, 0, pibroulez.Filter{})
-		if err != nil || len(page) == 0 {
-			return all, err
-		}
-		hasRead(ctx, len(page))
-		for _, info := range page {
-			all[info.Name] = snapshot{info, usages[info.Name]}
-		}
-		after = page[len(page)-1].Name
-	}
+	err = store.WalkAll(ctx, tenant, pibroulez.Filter{}, func(info pibroulez.Info) error {
+		hasRead(ctx, 1)
+		all[info.Name] = snapshot{info, usages[info.Name]}
+		return nil
+	})
+	return all, err
 }
 
 // Says in which snapshots, leases and limits the stores of two logs differ.

@@ -1,7 +1,9 @@
 package main
 
 import (
+	"context"
 	"encoding/json"
+	"errors"
 	"fmt"
 	"os"
 	"path/filepath"
@@ -106,6 +108,41 @@ func TestNoLog(t *testing.T) {
 func cutMark(text string) string {
 	lines := strings.Split(text[:strings.LastIndex(text, "}\n")+2], "\n")
 	return strings.Join(lines[:len(lines)-2], "\n") + "\n "
+}
+
+// A log that is no longer wanted is not copied to its end, and nothing of the copy stays.
+func TestNoLongerWanted(t *testing.T) {
+	path := logWith(t, nil)
+	folder := t.TempDir()
+	t.Setenv("TMPDIR", folder)
+	ended, end := context.WithCancel(ctx)
+	end()
+	var printed, said strings.Builder
+	status := run(ended, []string{"log-check", path, "--program", program()}, &printed, &said)
+	equal(t, printed.String(), "")
+	if !strings.Contains(said.String(), "context canceled") {
+		t.Errorf("says %q", said.String())
+	}
+	equal(t, status, 1)
+	left, err := os.ReadDir(folder)
+	granted(t, err)
+	equal(t, len(left), 0)
+	if err := copyFile(ended, path, filepath.Join(folder, "copy")); !errors.Is(err, context.Canceled) {
+		t.Errorf("a copy that is not wanted ends with %v", err)
+	}
+}
+
+// A log that takes more than one step to copy is copied to its last byte.
+func TestCopyOfMoreThanOneStep(t *testing.T) {
+	for _, size := range []int64{0, mostCopied, mostCopied + 1} {
+		from, to := filepath.Join(t.TempDir(), "from"), filepath.Join(t.TempDir(), "to")
+		granted(t, os.WriteFile(from, nil, 0o600))
+		granted(t, os.Truncate(from, size))
+		granted(t, copyFile(ctx, from, to))
+		info, err := os.Stat(to)
+		granted(t, err)
+		equal(t, info.Size(), size)
+	}
 }
 
 // What two logs' stores tell differently is told of each, and status 1 says that there is something.
