@@ -12,7 +12,7 @@ import (
 var ErrDied = errors.New("the process has ended")
 
 // ErrLogFailed is the error, beside ErrDied, of each call once a sync of the log has failed. Whether the log has the calls
-// that waited is unknown: Open has the store back that it tells.
+// that waited is unknown: Open opens the store again that it tells.
 var ErrLogFailed = errors.New("a sync of the log failed")
 
 // ErrClosed is the error of each call once the store is closed.

@@ -282,7 +282,7 @@ func TestNewLogs(t *testing.T) {
 	isError(t, err, syscall.ENOTDIR)
 }
 
-// The store of a log that is there is had back, also where the program isn't; else there is a new one.
+// The store of a log that is there is opened again, also where the program isn't; else there is a new one.
 func TestOpenOrNew(t *testing.T) {
 	config := loggedConfig(logPath(t))
 	for records := 0; records < 2; records++ {
@@ -313,7 +313,7 @@ func TestOneStoreAtATime(t *testing.T) {
 	equal(t, must[Report](t)(reopen(t, path).Report(ctx)).Entries, uint64(1))
 }
 
-// Where its context ends, a store isn't had back, and its log is free again.
+// Where its context ends, a store isn't opened again, and its log is free.
 func TestContextOfAnOpen(t *testing.T) {
 	path := logPath(t)
 	granted(t, newStoreOf(t, loggedConfig(path)).Close())
@@ -369,7 +369,7 @@ func TestNotKept(t *testing.T) {
 	equal(t, must[Report](t)(reopen(t, path).Report(ctx)).Records, 2)
 }
 
-// Where a sync fails, the calls that wait and each later one are told, and the log is had back.
+// Where a sync fails, the calls that wait and each later one are told, and the log is opened again.
 func TestFailedSync(t *testing.T) {
 	path := logPath(t)
 	config := loggedConfig(path)
@@ -444,7 +444,7 @@ func smallDisk(t *testing.T) (folder string, fill, empty func()) {
 		}
 }
 
-// On a full disk what asks and what frees is done, also when the store is had back there. Other calls are refused, and
+// On a full disk what asks and what frees is done, also when the store is opened again there. Other calls are refused, and
 // nothing is made, until there is room again.
 func TestFullDisk(t *testing.T) {
 	folder, fill, empty := smallDisk(t)

@@ -137,7 +137,7 @@ func (c Config) fields() fields {
 	return given
 }
 
-// Open starts the process and has the store back that a log tells. The store goes on with the log.
+// Open starts the process, and opens the store again that a log tells. The store goes on with the log.
 //
 // The error is fs.ErrNotExist where there is no log, or none with a line, a *BadLog where the file is no log, and
 // syscall.EWOULDBLOCK where another process has the log: also the one of a client that was killed, until it has seen the
@@ -151,7 +151,7 @@ func Open(ctx context.Context, program, path string) (*Store, error) {
 	})
 }
 
-// OpenOrNew has the store back that the configuration's log tells, as Open does. Where there is no log, or none with a
+// OpenOrNew opens the store again that the configuration's log tells, as Open does. Where there is no log, or none with a
 // line, it opens a store as New does; all of the configuration but Program and Log is of such a store alone. With
 // Config.Socket it is New.
 func OpenOrNew(ctx context.Context, config Config) (*Store, error) {

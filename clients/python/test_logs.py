@@ -264,7 +264,7 @@ class Logs(unittest.TestCase):
                 self.assertEqual(again.report().open, 1)
 
     def test_file_that_is_no_log(self) -> None:
-        """It stays as it was, to the byte, whether a store is to be begun or to be had back."""
+        """It stays as it was, to the byte, whether a store is to be begun or to be opened again."""
         opening = '{"do":"open","root":"/r","namespaces":[]}\n'
         for text in ("note", "a\nb", opening[:-9] + "\n", opening.replace("do", "to"), opening + "no line\n\x00"):
             self.log.write_text(text)
@@ -295,7 +295,7 @@ class Logs(unittest.TestCase):
             self.assertEqual(self.log.read_bytes(), text)
 
     def test_rounds_of_a_log(self) -> None:
-        """A store that was had back rolls to as many entries as it was opened with."""
+        """A store that was opened again rolls to as many entries as it was opened with."""
         open_store(journal=7, log=self.log).close()
         with Store.from_log(self.log, program=PROGRAM, roll_when_full=True) as store:
             for n in range(7):

@@ -382,7 +382,7 @@ class LogsThatFail(InFolder):
 
     def test_full_disk(self) -> None:
         """What changes nothing is answered; what changes something is refused until there is room again. The store goes
-        on, and can be had back on the full disk."""
+        on, and can be opened again on the full disk."""
         with open_store(log=self.log, program=limited_program(self.log.parent)) as store:
             store.prepare("a", "k", "")
             fill_disk(store, self.log)

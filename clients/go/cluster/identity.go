@@ -40,7 +40,7 @@ func Namespaces(tenants ...string) (map[string]Usage, error) {
 	return namespaces, nil
 }
 
-// OpenOrNew has the store back that config.Log tells, as pibroulez.OpenOrNew does, or opens a new one for these tenants,
+// OpenOrNew opens the store again that config.Log tells, as pibroulez.OpenOrNew does, or opens a new one for these tenants,
 // with an identity of its own. config.Namespaces isn't read. The error is that of Namespaces or of pibroulez.OpenOrNew.
 func OpenOrNew(ctx context.Context, config pibroulez.Config, tenants ...string) (*pibroulez.Store, error) {
 	namespaces, err := Namespaces(tenants...)

@@ -263,7 +263,7 @@ class Died(Error):
 class LogFailed(Died):
     """A sync of the log has failed. The process has ended then, and the store with it.
 
-    Whether the log has the calls that waited is unknown: `Store.from_log` has the store back that it tells. `path` is
+    Whether the log has the calls that waited is unknown: `Store.from_log` opens the store again that it tells. `path` is
     the log.
     """
 
@@ -277,8 +277,8 @@ class LogFailed(Died):
 
 
 class BadLog(Error):
-    """A file is no log, can't be read as one, or isn't as it was written, so a store can't be had back. The file is as it
-    was.
+    """A file is no log, can't be read as one, or isn't as it was written, so no store can be opened from it. The file
+    is as it was.
 
     `line` is the line's number, from 1, or 0 where it isn't that of a line, and `fault` what the program says of it.
     """

@@ -1,7 +1,7 @@
 """Takes the log of a client of version 0.1.0 over, once: `python3 -m pibroulez.take_over OLD NEW`.
 
 The lines of OLD are carried out by a process with a new log, which keeps those that change the store, and by one without
-a log beside it: each answer has to be the same, and so has what the store of the new log answers when it is had back. A
+a log beside it: each answer has to be the same, and so has what the store of the new log answers when it is opened again. A
 last line without its line feed is left out, since its call wasn't answered. OLD stays as it was, and NEW is there whole
 or not at all. The status is 0, or 1 after a line that names the error.
 """
