@@ -3,43 +3,16 @@ ghost use Rattle.std.specs.Prelude.{◌≡◌, ◌&&◌, ◌++◌, ◌∷◌, []
 ghost use Rattle.std.specs.Bound.{bound_map};
 ghost use Rattle.std.specs.Option.{option_copied, option_map};
 ghost use Rattle.snap_path.specs.Text.{Names};
-ghost use Rattle.snap_layer.specs.Tree.{Tree, body, node_hides};
+ghost use Rattle.snap_layer.specs.Tree.{Tree, node_hides};
 ghost use Rattle.snap_layer.specs.Layers.{IsLayer};
 ghost use Rattle.snap_layer.specs.Directory.{entry, IsFirstName};
-ghost use Rattle.snap_merge.specs.Objects.{object, shown, shown_body};
+ghost use Rattle.snap_merge.specs.Objects.{object};
 ghost use Rattle.snap_diff.specs.Places.{directory_names, shown_over, IsOwnPlace};
 
-use snap_layer::{Body, Dir, Layer, Node};
-use snap_merge::Seen;
+use snap_layer::{Dir, Layer, Node};
+use snap_merge::{Seen, node_hides, shown_at};
 use snap_path::Name;
 use std::ops::Bound;
-
-/// What the file or symlink with the number shows.
-fn shown_body<'a>(layer: &'a Layer, number: u32) -> Option<Seen<'a>>
-    ensures { option_map object result ≡ shown_body (body layer.now number) }
-{
-    match layer.body(number)? {
-        Body::File { meta, content } => Some(Seen::File {
-            meta: *meta,
-            content,
-        }),
-        Body::Symlink { target } => Some(Seen::Symlink {
-            target: target.as_slice(),
-        }),
-    }
-}
-
-/// What a node of the layer shows.
-fn shown<'a>(layer: &'a Layer, node: Node) -> Option<Seen<'a>>
-    ensures { option_map object result ≡ shown layer.now node }
-{
-    match node {
-        Node::Dir { meta, .. } => Some(Seen::Dir { meta }),
-        Node::File { number } => shown_body(layer, number),
-        Node::Symlink { number } => shown_body(layer, number),
-        Node::Whiteout => None,
-    }
-}
 
 /// What a layer has at a path: the node, the directory that it is, and whether the layer hides there what the layers
 /// below have.
@@ -106,13 +79,7 @@ impl<'a> Own<'a> {
     fn hides(&self) -> bool
         ensures { result ≡ node_hides self.now.node }
     {
-        match self.node {
-            None => false,
-            Some(Node::Dir { opaque, .. }) => opaque,
-            Some(Node::File { .. }) => true,
-            Some(Node::Symlink { .. }) => true,
-            Some(Node::Whiteout) => true,
-        }
+        node_hides(self.node)
     }
 
     /// What is seen at the path, over what the layers below show there.
@@ -120,7 +87,7 @@ impl<'a> Own<'a> {
         ensures { option_map object result ≡ shown_over layer.now self.now.node self.now.hidden (option_map object old.entry) }
     {
         match self.node {
-            Some(node) => shown(layer, node),
+            Some(node) => shown_at(layer, node),
             None if self.hidden => None,
             None => old,
         }

@@ -320,7 +320,8 @@ impl<'a> Walk<'a> {
     }
 
     /// Keeps the changes at the first so many names of the path that the page begins after, and below them. A directory
-    /// there that the layer shares with the layers below comes before the page, and is neither looked at nor gets a path.
+    /// there that the layer shares with the layers below comes before the page: it is looked at, and gets a path, only
+    /// where a name of the layer's comes after the place.
     fn put_way(
         &self,
         after: &'a Path,

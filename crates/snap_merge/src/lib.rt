@@ -14,5 +14,5 @@ mod stack;
 mod taken;
 
 pub use error::FsError;
-pub use look::{Seen, hides, is_dir, show_are_layers};
+pub use look::{Seen, hides, is_dir, node_hides, show_are_layers, shown_at};
 pub use stack::Stack;

@@ -205,8 +205,9 @@ fn hides_names(layer: &Layer, names: &[Name]) -> bool
     node_hides(trace.node)
 }
 
-/// Whether what stands there hides what the layers below have under it.
-pub(crate) fn node_hides(node: Option<Node>) -> bool
+/// Whether what a layer has at a path hides what the layers below have under it: a whiteout, a file, a symlink or an
+/// opaque directory (overlayfs.rst, "whiteouts and opaque directories"). Takes no memory. The cost is constant.
+pub fn node_hides(node: Option<Node>) -> bool
     ensures { result ≡ node_hides node }
 {
     match node {
@@ -218,8 +219,9 @@ pub(crate) fn node_hides(node: Option<Node>) -> bool
     }
 }
 
-/// What a node of the layer shows.
-fn shown_at<'a>(layer: &'a Layer, node: Node) -> Option<Seen<'a>>
+/// What a node of the layer shows, by itself: a file or a symlink what is in it, a directory its meta, and a whiteout
+/// nothing. Takes no memory. The cost grows with the logarithm of the number of the layer's inodes.
+pub fn shown_at<'a>(layer: &'a Layer, node: Node) -> Option<Seen<'a>>
     ensures { option_map object result ≡ shown layer.now node }
 {
     match node {

@@ -455,7 +455,20 @@ fn refused<T: Print + Eprint>(rt: &T, error: &Error) -> u8
             Ok(()) => 0,
             Err(_) => status(rt, Err(Ended::Stopped(JobsStop::Lines(Stop::OutputFailed)))),
         },
-        _ => {
+        WordsErrorKind::InvalidValue
+        | WordsErrorKind::UnknownArgument
+        | WordsErrorKind::InvalidSubcommand
+        | WordsErrorKind::NoEquals
+        | WordsErrorKind::ValueValidation
+        | WordsErrorKind::TooManyValues
+        | WordsErrorKind::TooFewValues
+        | WordsErrorKind::WrongNumberOfValues
+        | WordsErrorKind::ArgumentConflict
+        | WordsErrorKind::MissingRequiredArgument
+        | WordsErrorKind::MissingSubcommand
+        | WordsErrorKind::DisplayHelpOnMissingArgumentOrSubcommand
+        | WordsErrorKind::Io
+        | WordsErrorKind::Format => {
             let _ = rt.eprint(error);
             BAD_WORDS
         }
