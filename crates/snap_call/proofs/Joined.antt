@@ -401,6 +401,43 @@ module _ (place : ℕ) (after : Bytes) (asked : Filter) where
   pub joined-page-past : (most : ℕ) (rss : List (List Record)) → AreFrom 0 rss → length rss ≤ place → [] ≡ info_page place after most asked (joined_records rss)
   joined-page-past most rss from le = sym (ap (λ l. map info_of (take most l)) (unwalked-below (joined_records rss) (below-from 0 place rss (omega arith) from)) ∙ ap (map info_of) (take-nil most))
 
+-- ---- the records of one namespace
+
+module _ (place : ℕ) where
+  others-none : (rs : List Record) → AllByRecursion (λ r. r.namespace ≡ place → ⊥) rs → filter (λ r. r.namespace == place) rs ≡ []
+  others-none rs apart =
+      filter-none (λ r. r.namespace == place) rs
+      (all-map (λ r. r.namespace ≡ place → ⊥) (λ r. (r.namespace == place) ≡ false) (λ r other. false_from_ne_true (r.namespace == place) (λ e. other (eqb-true r.namespace place e))) rs apart)
+
+  own-all : (rs : List Record) → IsOf place rs → filter (λ r. r.namespace == place) rs ≡ rs
+  own-all [] of = refl
+  own-all (r ∷ rs) of =
+      ap (λ b. cond b (r ∷ filter (λ t. t.namespace == place) rs) (filter (λ t. t.namespace == place) rs)) (eq-eqb r.namespace place of.0)
+      ∙ ap (λ l. r ∷ l) (own-all rs of.1)
+
+  own-from : (i k : ℕ) (rss : List (List Record)) (d : List Record) → AreFrom i rss → k < length rss → i + k ≡ place → filter (λ r. r.namespace == place) (joined_records rss) ≡ get_or rss k d
+  own-from i k [] d from lt at = absurd (omega arith)
+  own-from i zero (rs ∷ rss) d from lt at =
+      let e : i ≡ place = omega (arith, at) in
+      let above = above-from (suc i) place rss (omega arith) from.1 in
+      filter-append (λ r. r.namespace == place) rs (joined_records rss)
+      ∙ ap (λ l. filter (λ r. r.namespace == place) rs ++ l) (others-none (joined_records rss) (all-map (λ r. place < r.namespace) (λ r. r.namespace ≡ place → ⊥) (λ r lt is. omega (arith, is, lt)) (joined_records rss) above))
+      ∙ append-nil (filter (λ r. r.namespace == place) rs)
+      ∙ own-all rs (subst (λ n. IsOf n rs) e from.0)
+  own-from i (suc k) (rs ∷ rss) d from lt at =
+      let below = below-of i place rs (omega arith) from.0 in
+      filter-append (λ r. r.namespace == place) rs (joined_records rss)
+      ∙ ap (λ l. l ++ filter (λ r. r.namespace == place) (joined_records rss)) (others-none rs (all-map (λ r. r.namespace < place) (λ r. r.namespace ≡ place → ⊥) (λ r lt is. omega (arith, is, lt)) rs below))
+      ∙ own-from (suc i) k rss d from.1 (omega arith) (omega arith)
+
+  pub joined-own : (rss : List (List Record)) (d : List Record) → AreFrom 0 rss → place < length rss → filter (λ r. r.namespace == place) (joined_records rss) ≡ get_or rss place d
+  joined-own rss d from lt = own-from 0 place rss d from lt (omega arith)
+
+  pub joined-own-past : (rss : List (List Record)) → AreFrom 0 rss → length rss ≤ place → filter (λ r. r.namespace == place) (joined_records rss) ≡ []
+  joined-own-past rss from le =
+      others-none (joined_records rss)
+      (all-map (λ r. r.namespace < place) (λ r. r.namespace ≡ place → ⊥) (λ r lt is. omega (arith, is, lt)) (joined_records rss) (below-from 0 place rss (omega arith) from))
+
 -- ---- whether a namespace has records
 
 abbrev pub is_nil : {X : Type 0} → List X → Bool

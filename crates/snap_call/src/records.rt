@@ -1,4 +1,4 @@
-ghost use Rattle.std.specs.Prelude.{◌≡◌, ◌<◌, ◌+◌, ◌^◌, [], true, false, map, length, option_copied, None, OnOk, OnErr, IfErr, IfOk, IsTrue, ◌↔◌, ℕ};
+ghost use Rattle.std.specs.Prelude.{◌≡◌, ◌<◌, ◌+◌, ◌^◌, [], true, false, map, filter, ◌==◌, length, option_copied, None, OnOk, OnErr, IfErr, IfOk, IsTrue, ◌↔◌, ℕ};
 ghost use Rattle.std.specs.List.{list_any};
 ghost use Rattle.std.specs.Option.{option_map, option_to_list};
 ghost use Rattle.snap_call.specs.Records.{record_at, has_key, has_records, has_children, child_count, is_slot, active_at, with_record, without_key, without_keys, without_slot, recharged, relabelled, info_page, lowest_free, HasLowSlot, max_slots};
@@ -73,6 +73,18 @@ impl Records {
             list = space.listed(list)?;
         }
         Ok(list)
+    }
+
+    /// The records of the namespace at the place, in the order of their keys. Takes memory for the list. The cost
+    /// grows with their number, whatever other namespaces have.
+    pub fn list_of(&self, alloc: Global, place: usize) -> Result<Vec<&Record>, AllocError>
+        ensures { IfOk result (λ list. map (λ r. r.now) list.items ≡ filter (λ r. r.namespace == place) self.now) }
+    {
+        let list = Vec::new(alloc);
+        match self.spaces.list.get(place) {
+            Some(space) => space.listed(list),
+            None => Ok(list),
+        }
     }
 
     /// How many records there are. Takes no memory. The cost is constant.

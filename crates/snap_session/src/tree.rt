@@ -1,5 +1,5 @@
 // The snapshots of a namespace as a forest by parent.
-ghost use Rattle.std.specs.Prelude.{◌≡◌, ◌==◌, IfOk};
+ghost use Rattle.std.specs.Prelude.{◌≡◌, IfOk};
 ghost use Rattle.snap_session.specs.Tree.{tree_node, forest, tree};
 
 use snap_call::{Records, Refusal};
@@ -23,22 +23,13 @@ fn tree_node(records: &Records, snapshot: &Record) -> Result<TreeNode, AllocErro
     })
 }
 
-// The snapshot is one of the namespace at the place.
-fn is_in(snapshot: &Record, place: usize) -> bool
-    ensures { result ≡ (snapshot.now.namespace == place) }
-{
-    snapshot.namespace == place
-}
-
 fn forest(alloc: Global, records: &Records, place: usize) -> Result<Sequence<TreeNode>, AllocError>
     ensures { IfOk result (λ nodes. nodes ≡ forest place records.now) }
 {
-    let list = records.list(alloc)?;
+    let list = records.list_of(alloc, place)?;
     let mut nodes = Sequence::new(alloc);
     for record in &list {
-        if is_in(record, place) {
-            nodes.push(tree_node(records, record)?)?;
-        }
+        nodes.push(tree_node(records, record)?)?;
     }
     Ok(nodes)
 }
