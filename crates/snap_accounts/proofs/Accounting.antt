@@ -128,7 +128,7 @@ charge_in-at s us cs n slot accounts low = slice_get-found cs slot (charge_at sl
 pub place-of : (s : State) (slot : ℕ) (r : Record) → Good s → active_at slot s.records ≡ Some r → r.namespace < length s.namespaces
 place-of s slot r good e = active_at-all (λ (t : Record). t.namespace < length s.namespaces) slot s.records r e (placed_below s good)
 
--- a slot is charged so much
+-- a slot is charged `to`
 pub accounts_recharged : (s t : State) (us vs : List Usage) (cs ds : List ChargeState) (n slot : ℕ) (to : Usage) (r : Record)
     → AreAccounts s us cs n → Good t → active_at slot s.records ≡ Some r → slot < max_slots → t.namespaces ≡ s.namespaces → t.records ≡ recharged slot to s.records → open_count t.records ≡ open_count s.records
     → vs ≡ set us r.namespace (charge_with r to s.records) → ds ≡ set cs slot (record (charge_in cs slot) { usage = to }) → AreAccounts t vs ds n

@@ -37,7 +37,7 @@ use Rattle.snap_accounts.specs.Changes.{IsEmptySpace, IsLimitFor, IsNewSpace, Is
 use Rattle.snap_accounts.proofs.Accounting.{accounts_kept, accounts_total}
 use Rattle.snap_call.proofs.Parts.{limited_at}
 
--- ---- a view more
+-- ---- one more view
 
 module _ (r : Record) (layers : List Tree) (is : r.content ≡ View layers) where
   -- no namespace is charged for it
@@ -76,7 +76,7 @@ accounts_relabelled s us cs n place key labels accounts =
     (λ k. alike-charge_at rs ts alike k)
     (alike-open_count rs ts alike)
 
--- ---- a snapshot less
+-- ---- one snapshot fewer
 
 -- its record
 pub found_unused : (s : State) (place : ℕ) (key : Bytes) → IsUnused s place key → (r : Record) × (record_at place key s.records ≡ Some r) × (is_active r.content ≡ false)
@@ -118,7 +118,7 @@ accounts_removed s us vs cs n place key accounts unused is_vs =
     (open_count-removed s place key unused)
     (is_vs ∙ ap (λ u. set us place (minus (charge_of place s.records) u)) (freed-found s place key unused))
 
--- ---- a namespace more, and one less
+-- ---- one more namespace, and one fewer
 
 -- the totals as far as there are places
 totals_cut : (us : List Usage) (k j : ℕ) → j < k → slice_get (take k us) j ≡ slice_get us j

@@ -47,7 +47,7 @@ pub record IsUnused (s : State) (place : ℕ) (key : Bytes) : Type 0 where
   pub idle : IsSomeAnd (record_at place key s.records) (λ r. is_active r.content ≡ false)
   pub unleased : is_guarded s.leases namespace key ≡ false
 
--- the namespace can be made: it has its form, and the store has none of its name
+-- the namespace can be made: it is well-formed, and the store has none of its name
 abbrev pub IsNewSpace : State → Namespace → Type 0
 IsNewSpace s n = (is_namespace n ≡ true) × (place_of n.name s.namespaces ≡ None)
 
@@ -73,7 +73,7 @@ pub record IsLeaseName (s : State) (namespace lease name : Bytes) : Type 0 where
   pub there : has_lease s.leases namespace lease ≡ true
   pub committed : IsSomeAnd (place_of namespace s.namespaces) (λ place. IsSome (committed_at place name s.records))
 
--- the keys are those of what a sweep of the namespace at the place takes away at the moment, for which it is charged so much
+-- `keys` are those of what a sweep of the namespace at the place takes away at the moment, `freed` what that is charged
 pub record IsSweepAt (s : State) (place : ℕ) (namespace : Bytes) (moment : ℕ) (keys : List Bytes) (freed : Usage) : Type 0 where
   pub named : place_of namespace s.namespaces ≡ Some place
   pub swept : keys ≡ swept_keys s namespace place moment

@@ -128,7 +128,7 @@ impl Model for Totals {
 }
 
 impl Totals {
-    // 0/0 for so many namespaces.
+    // 0/0 for `count` namespaces.
     pub(crate) fn zero(alloc: Global, count: usize) -> Result<Totals, AllocError>
         ensures { IfOk result (λ t. t ≡ replicate count no_usage) }
     {
@@ -137,7 +137,7 @@ impl Totals {
         Ok(Totals { list })
     }
 
-    // A total more, of nothing.
+    // One more total, of nothing.
     pub(crate) fn push_none(&mut self) -> Result<(), AllocError>
         ensures ok { OnOk result (self.new ≡ self.old ++ no_usage ∷ []) }
         ensures err { OnErr result (self.new ≡ self.old) }
@@ -146,7 +146,7 @@ impl Totals {
         Ok(())
     }
 
-    // At most so many totals.
+    // Keeps at most the first `count` totals.
     pub(crate) fn cut(&mut self, count: usize)
         ensures { self.new ≡ take count self.old }
     {

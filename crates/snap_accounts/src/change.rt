@@ -31,7 +31,7 @@ use std::alloc::{AllocError, Global};
 #[derive(Drop)]
 pub enum Change {
     Nothing,
-    /// A view more.
+    /// One more view.
     View(Record),
     /// The snapshot that has this key in the namespace at this place goes.
     Removal {
@@ -44,7 +44,7 @@ pub enum Change {
         key: Text,
         labels: Labels,
     },
-    /// A namespace more.
+    /// One more namespace.
     Space(Namespace),
     /// The namespace at this place goes, which has no snapshot and no lease.
     SpaceEnd {
@@ -55,19 +55,19 @@ pub enum Change {
         place: usize,
         namespace: Namespace,
     },
-    /// A lease more, which names nothing.
+    /// One more lease, which names nothing.
     Lease {
         namespace: Text,
         lease: Text,
         until: Option<u64>,
     },
-    /// A name more in a lease.
+    /// One more name in a lease.
     LeaseName {
         namespace: Text,
         lease: Text,
         name: Text,
     },
-    /// A name less in a lease.
+    /// One name fewer in a lease.
     LeaseNameEnd {
         namespace: Text,
         lease: Text,
@@ -78,8 +78,8 @@ pub enum Change {
         namespace: Text,
         lease: Text,
     },
-    /// A sweep of the namespace, which has this place, at a moment: the snapshots of these keys go, for
-    /// which it is charged so much, and its leases that have ended.
+    /// A sweep, at a moment, of the namespace at this place: the snapshots of these keys go, which are charged `freed`,
+    /// and so do the namespace's leases that have ended.
     Sweep {
         place: usize,
         namespace: Text,
@@ -263,7 +263,7 @@ impl<N: StoreName> Accounts<N> {
         Ok((place, snapshot.content.usage()))
     }
 
-    // A snapshot less, and the reply with what it was charged, or why it stays.
+    // One snapshot fewer, and the reply with what it was charged, or why it stays.
     fn plan_removal(&self, namespace: &str, key: &Text) -> Result<(Reply, Change), AllocError>
         ensures reply { IfOk result (λ p. remove self.now namespace.now key.now ≡ (changed_state self.now p.1, p.0)) }
         ensures recorded { IfOk result (λ p. IsInEntry p.0) }
@@ -374,13 +374,13 @@ impl<N: StoreName> Accounts<N> {
     /// `Stat` has the info of a snapshot, `Usage` what it is charged, in blocks of 4096 bytes and
     /// inodes, `Mounts` the mounts that show it, `View` the id of the new view and those of its
     /// ancestors, `Remove` what the snapshot was charged, `Update` the info with the labels after it,
-    /// `Walk` a page of infos, `Sweep` what goes; a namespace, a limit and a lease are set without more. The refusals
-    /// are those of [`snap_call`]'s `step`, in its order. Takes memory for the reply and the change. The
-    /// cost grows with the logarithm of the number of records and with the texts and labels of those that
-    /// are found; that of mounts and of a view with that logarithm times the ancestors, that of a walk with
-    /// the records that it passes over, that of a removal with the logarithm of the number of names in leases
-    /// too, that of a call on a lease with the logarithm of the number of leases, that of making a namespace with
-    /// the places of the namespaces, each with the logarithm of the number of these, and that of a sweep is that of [`plan_sweep`](snap_call::State::plan_sweep).
+    /// `Walk` a page of infos, `Sweep` what goes; a namespace, a limit and a lease are just set. The refusals are those
+    /// of [`snap_call`]'s `step`, in its order. Takes memory for the reply and the change. The cost grows with the
+    /// logarithm of the number of records and with the texts and labels of those that are found; that of mounts and of
+    /// a view with that logarithm times the ancestors, that of a walk with the records that it passes over, that of a
+    /// removal with the logarithm of the number of names in leases too, that of a call on a lease with the logarithm of
+    /// the number of leases, that of making a namespace with the places of the namespaces, each with the logarithm of
+    /// the number of these, and that of a sweep is that of [`plan_sweep`](snap_call::State::plan_sweep).
     pub fn plan(&self, alloc: Global, call: &Call) -> Result<(Reply, Change), AllocError>
         requires plain { IsPlain call.now }
         requires entries { self.now.entries < 2 ^ 63 }

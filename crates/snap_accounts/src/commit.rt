@@ -17,7 +17,7 @@ use snap_path::NoMemory;
 use snap_record::{Labels, Text};
 use snap_usage::{Usage, count, difference};
 
-// The name of a commit has its form, and so have its lease and its labels, if they are given.
+// The name of a commit is well-formed, and so are its lease and its labels, if they are given.
 fn are_formed(name: &str, lease: &Option<Text>, labels: &Option<Labels>) -> bool
     ensures { result ≡ are_formed name.now lease.now labels.now }
 {
@@ -42,8 +42,8 @@ impl<N: StoreName> Accounts<N> {
 
     /// Why the snapshot of an open slot can't be committed under the name, if it can't. In this order:
     /// `BadArgument` for a name, a lease or labels that are malformed; `AlreadyExists` where its namespace
-    /// has the name; `NoLease` where it has not the lease. Takes no memory. The cost grows with the labels
-    /// that are given, and with the logarithms of the number of records and of the number of leases.
+    /// has the name; `NoLease` where it has no such lease. Takes no memory. The cost grows with the labels that are
+    /// given, and with the logarithms of the number of records and of the number of leases.
     pub fn check_commit(
         &self,
         slot: u64,
@@ -69,7 +69,7 @@ impl<N: StoreName> Accounts<N> {
         Ok(())
     }
 
-    // The charge of the namespace at the place, once what holds so much is charged the count.
+    // The charge of the namespace at the place, once what is charged `held` is charged `count`.
     fn total_with(&self, place: usize, held: Usage, count: Usage) -> Usage
         requires place { place < length self.now.namespaces }
         requires held { Covers (charge_of place self.now.records) held }

@@ -79,7 +79,7 @@ impl<N: StoreName> Accounts<N> {
         Ok(())
     }
 
-    // A lease more, or why there is none.
+    // One more lease, or why there is none.
     pub(crate) fn plan_lease(
         &self,
         namespace: &Text,
@@ -132,7 +132,7 @@ impl<N: StoreName> Accounts<N> {
         Ok(())
     }
 
-    // A name more in a lease, or why there is none.
+    // One more name in a lease, or why there is none.
     pub(crate) fn plan_lease_name(
         &self,
         namespace: &Text,
@@ -181,7 +181,7 @@ impl<N: StoreName> Accounts<N> {
         }
     }
 
-    // A name less in a lease, or why it stays.
+    // One name fewer in a lease, or why it stays.
     pub(crate) fn plan_lease_name_end(
         &self,
         namespace: &Text,
@@ -229,7 +229,7 @@ impl<N: StoreName> Accounts<N> {
         Ok(())
     }
 
-    // A lease less, or why it stays.
+    // One lease fewer, or why it stays.
     pub(crate) fn plan_lease_end(
         &self,
         namespace: &Text,
@@ -260,7 +260,7 @@ impl<N: StoreName> Accounts<N> {
         self.state.entries += 1;
     }
 
-    // There is a lease more.
+    // There is one more lease.
     pub(crate) fn add_lease(
         &mut self,
         namespace: &str,
@@ -284,7 +284,7 @@ impl<N: StoreName> Accounts<N> {
         }
     }
 
-    // The lease has a name more.
+    // The lease has one more name.
     pub(crate) fn add_lease_name(
         &mut self,
         namespace: &str,
@@ -308,7 +308,7 @@ impl<N: StoreName> Accounts<N> {
         }
     }
 
-    // The lease has a name less.
+    // The lease has one name fewer.
     pub(crate) fn end_lease_name(&mut self, namespace: &str, lease: &str, name: &str)
         requires named { lease_names self.old.leases namespace.now lease.now name.now ≡ true }
         requires entries { self.old.entries < 2 ^ 63 }
@@ -319,7 +319,7 @@ impl<N: StoreName> Accounts<N> {
         self.state.entries += 1;
     }
 
-    // There is a lease less.
+    // There is one lease fewer.
     pub(crate) fn end_lease(&mut self, namespace: &str, lease: &str)
         requires there { has_lease self.old.leases namespace.now lease.now ≡ true }
         requires entries { self.old.entries < 2 ^ 63 }

@@ -37,7 +37,7 @@ impl<N: StoreName> Accounts<N> {
         Ok(())
     }
 
-    // A namespace more, or why there is none.
+    // One more namespace, or why there is none.
     pub(crate) fn plan_namespace(
         &self,
         namespace: &Text,
@@ -71,7 +71,7 @@ impl<N: StoreName> Accounts<N> {
         Ok(place)
     }
 
-    // A namespace less, or why it stays.
+    // One namespace fewer, or why it stays.
     pub(crate) fn plan_namespace_end(&self, namespace: &str) -> Result<(Reply, Change), AllocError>
         ensures reply { IfOk result (λ p. namespace_remove self.now namespace.now ≡ (changed_state self.now p.1, p.0)) }
         ensures recorded { IfOk result (λ p. IsInEntry p.0) }
@@ -83,7 +83,7 @@ impl<N: StoreName> Accounts<N> {
         }
     }
 
-    // There is a namespace more. A total is there before it, and is taken back where none is needed.
+    // There is one more namespace. A total is there before it, and is taken back where none is needed.
     pub(crate) fn add_namespace(&mut self, made: Namespace) -> Result<(), AllocError>
         requires new { IsNewSpace self.old made }
         requires entries { self.old.entries < 2 ^ 63 }
@@ -99,7 +99,7 @@ impl<N: StoreName> Accounts<N> {
         Ok(())
     }
 
-    // There is a namespace less.
+    // There is one namespace fewer.
     pub(crate) fn end_namespace(&mut self, place: usize)
         requires empty { IsEmptySpace self.old place }
         requires entries { self.old.entries < 2 ^ 63 }

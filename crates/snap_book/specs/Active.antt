@@ -26,6 +26,6 @@ abbrev pub root_meta : List Tree → Meta
 root_meta [] = record { mode = 493 }
 root_meta (layer ∷ layers) = meta_of_root (at layer [])
 
--- the layer of a new snapshot over these: a root alone, which may have so many inodes
+-- the layer of a new snapshot over these: a root alone, of at most `inodes` inodes
 abbrev pub fresh : ℕ → List Tree → Tree
 fresh inodes lowers = root_within inodes (root_meta lowers) 1

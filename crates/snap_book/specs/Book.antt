@@ -17,7 +17,7 @@ use Rattle.snap_call.specs.State.{ancestors, ids_of}
 use Rattle.snap_call.specs.Step.{step, IsAllowed}
 use Rattle.snap_accounts.specs.declared.prepare.Vacancy.{Vacancy}
 
--- what clauses see of the journal: its entries, the state that it began at, the most entries, the copy of the last entry until it is taken, and for how many entries more it has memory
+-- what clauses see of the journal: its entries, the state that it began at, the most entries, the copy of the last entry until it is taken, and for how many more entries it has memory
 pub record JournalValue : Type 0 where
   pub entries : List Entry
   pub opening : State
@@ -43,7 +43,7 @@ pub record Recorded (old new : BookValue) (n : ℕ) (call : Call) (given : Given
   pub limit : new.limit ≡ old.limit
   pub copy : new.copy ≡ Some (call_entry n call given reply)
 
--- a refused call is recorded, but where the journal is full or memory is refused: then all is as before
+-- a refused call is recorded, except where the journal is full or memory is refused: then all is as before
 abbrev pub RefusedBy : BookValue → BookValue → ℕ → Call → Given → Refusal → Type 0
 RefusedBy old new n call given JournalFull = new ≡ old
 RefusedBy old new n call given (OutOfMemory want) = new ≡ old

@@ -10,7 +10,7 @@ use Rattle.snap_call.specs.Records.{open_count, max_journal}
 abbrev pub next_round : State → State
 next_round s = record s { sessions = 0 }
 
--- the answer where a round of at most so many entries is to follow: a journal has at most 1,048,576 of them, and their numbers end at 2^62
+-- the answer where a round of at most `journal` entries follows: a journal has at most 1,048,576 of them, and their numbers end at 2^62
 abbrev pub round_answer : State → ℕ → Result Unit Refusal
 round_answer s journal =
     if nat_lt max_journal journal then Err BadArgument else

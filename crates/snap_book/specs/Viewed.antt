@@ -18,17 +18,17 @@ abbrev pub IsView : Content → Type 0
 IsView (contents.View layers) = Unit {0}
 IsView content = ⊥
 
--- the change is a view more
+-- the change is one more view
 abbrev pub HasView : Change → Type 0
 HasView (View r) = IsView r.content
 HasView change = ⊥
 
--- a reply that is no refusal comes with a view more
+-- a reply that is no refusal comes with one more view
 abbrev pub ComesWith : Reply → Change → Type 0
 ComesWith (replies.Refused why) change = Unit {0}
 ComesWith reply change = HasView change
 
--- the change is a view more, of this id and these layers
+-- the change is one more view, of this id and these layers
 abbrev pub IsViewOf : Change → ViewedValue → Type 0
 IsViewOf (View r) v = (r.id ≡ v.id) × (r.content ≡ contents.View v.lowers)
 IsViewOf change v = ⊥

@@ -110,7 +110,7 @@ impl<N: StoreName> Book<N> {
 
     /// Takes the memory for the entry of a session, so that the next [`Book::open_session`] needs none, also
     /// in the next round. Where that memory is kept already it takes none; where memory is refused the
-    /// book is as it was. The cost is constant, but where the journal's list of entries has to grow.
+    /// book is as it was. The cost is constant, except where the journal's list of entries has to grow.
     pub fn reserve_session(&mut self) -> Result<(), AllocError>
         ensures { self.new ≡ self.old }
     {

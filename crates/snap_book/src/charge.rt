@@ -38,9 +38,9 @@ fn more(need: u64, extra: u64) -> u64
     need.saturating_add(extra.min(MAX_LIMIT))
 }
 
-/// What a writer wants of a charge that needs so much, to have an extra amount to spare: the sum, in
-/// blocks of 4096 bytes and inodes. Of the extra at most 2^40 of each quantity count, the greatest limit
-/// of a namespace, and a sum past 2^64 - 1 is that number. Takes no memory. The cost is constant.
+/// What a writer wants of a charge that needs `need`, to have `extra` to spare: the sum, in blocks of 4096 bytes and
+/// inodes. Of the extra at most 2^40 of each quantity count, the greatest limit of a namespace, and a sum past 2^64 - 1
+/// is that number. Takes no memory. The cost is constant.
 pub fn wanted(need: Usage, extra: Usage) -> Usage
     ensures { result ≡ wanted_charge need extra }
 {

@@ -111,11 +111,10 @@ impl<N: StoreName> Book<N> {
     /// lease, where one is given, gets the name, whether it is live or has ended.
     ///
     /// `JournalFull` and `OutOfMemory` as for [`Book::prepare`], but one entry is enough; these two
-    /// are not recorded. Then, in this order: `BadArgument` for a name, a lease or labels that have not their
-    /// form; `AlreadyExists` where the namespace has the name, the snapshot's own key among them;
-    /// `NoLease` where the namespace has not the lease. Each refusal gives the snapshot back as it was.
-    /// The cost grows with the texts and the labels, and with the logarithms of the number of leases and of
-    /// the number of records.
+    /// are not recorded. Then, in this order: `BadArgument` for a malformed name, lease or labels; `AlreadyExists`
+    /// where the namespace has the name, the snapshot's own key among them; `NoLease` where the namespace has no such
+    /// lease. Each refusal gives the snapshot back as it was. The cost grows with the texts and the labels, and with
+    /// the logarithms of the number of leases and of the number of records.
     pub fn commit(
         &mut self,
         session: u64,

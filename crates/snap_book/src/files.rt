@@ -140,7 +140,7 @@ impl<N: StoreName> Active<N> {
         ensures first { lists_names op.now (self.old.layer ∷ self.old.lowers) ≡ false → IfErr (worked op.now self.old.share.usage self.old.layer self.old.lowers) (λ e. result ≡ Err e) }
         // What works on the layer's own things is never refused memory.
         ensures sure { TakesNoMemory op.now self.old.layer → IfErr result (λ e. worked op.now self.old.share.usage self.old.layer self.old.lowers ≡ Err e) }
-        // So much is asked for exactly where it is the next layer's count and the share doesn't cover it.
+        // `need` is asked for exactly where it is the next layer's count and the share doesn't cover it.
         ensures needs { lists_names op.now (self.old.layer ∷ self.old.lowers) ≡ false → (need : usages.Usage) → IsErrOf result (NeedsCharge need) ↔ ((planned (after op.now self.old.layer self.old.lowers) ≡ Ok (record { after = need })) × ¬ Covers self.old.share.usage need) }
     {
         let share = self.share.held();

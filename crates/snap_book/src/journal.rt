@@ -129,8 +129,8 @@ impl Journal {
         self.copy = None;
     }
 
-    // Lets in so many entries more beside one for each open snapshot, and makes room for all of them.
-    // It is `JournalFull` where the limit is below that, and else `OutOfMemory` where there is no memory.
+    // Lets in `more` entries beside one for each open snapshot, and makes room for all of them. It is `JournalFull`
+    // where the limit is below that, and else `OutOfMemory` where there is no memory.
     pub(crate) fn admit(&mut self, owed: u64, more: u64) -> Result<(), Refusal>
         requires { length self.old.entries + owed ≤ self.old.limit }
         ensures full { IsErrOf result JournalFull ↔ (self.old.limit < length self.old.entries + owed + more) }
@@ -172,7 +172,7 @@ impl Journal {
         }
     }
 
-    // One entry more, and its second holder. It takes no memory.
+    // One more entry, and its second holder. It takes no memory.
     pub(crate) fn push(&mut self, entry: SharedEntry, copy: SharedEntry)
         requires room { 0 < self.old.room }
         requires copy { copy ≡ entry }
@@ -183,7 +183,7 @@ impl Journal {
         self.copy = Some(copy);
     }
 
-    // One entry more, and its copy, in the room that was made for them. It takes no memory.
+    // One more entry, and its copy, in the room that was made for them. It takes no memory.
     pub(crate) fn push_into(&mut self, room: EntryRoom, entry: Entry, copy: Entry)
         requires room { 0 < self.old.room }
         requires copy { copy ≡ entry }

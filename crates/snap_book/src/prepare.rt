@@ -164,7 +164,7 @@ impl<N: StoreName> Book<N> {
         }
     }
 
-    /// Makes an active snapshot as [`Book::prepare`] does, with a layer of at most so many inodes, and gives the
+    /// Makes an active snapshot as [`Book::prepare`] does, with a layer of at most `layer_inodes` inodes, and gives the
     /// call's reply beside it.
     pub fn prepare_within(
         &mut self,

@@ -15,7 +15,7 @@ use snap_ledger::StoreName;
 use snap_usage::Usage;
 use std::alloc::AllocError;
 
-// What the ancestors of a snapshot on the parent are charged, where there are at most so many.
+// What the ancestors of a snapshot on the parent are charged, where there are at most `most`.
 fn usage_above(records: &Records, most: u64, place: usize, parent: &str) -> Usage
     requires few { most ≤ 500 }
     requires all { IsSome (chain_from most records.now place parent.now) }

@@ -9,7 +9,7 @@ use snap_call::limits::{MAX_ENTRY, MAX_JOURNAL};
 use snap_ledger::StoreName;
 
 impl<N: StoreName> Book<N> {
-    // Whether a round of at most so many entries may follow.
+    // Whether a round of at most `journal` entries may follow.
     fn test_round(&self, journal: u64) -> Result<(), Refusal>
         ensures answer { result ≡ round_answer self.now.state journal }
         ensures limit { OnOk result (journal ≤ max_journal) }
@@ -24,9 +24,9 @@ impl<N: StoreName> Book<N> {
         Ok(())
     }
 
-    /// Begins the next round, whose journal has at most so many entries: it is empty, and sessions are
-    /// counted from 0 again. All snapshots stay, and their records and charges; the first entry has the
-    /// number after the last one's. No snapshot may be open.
+    /// Begins the next round, whose journal has at most `journal` entries: it is empty, and sessions are counted from 0
+    /// again. All snapshots stay, and their records and charges; the first entry has the number after the last one's.
+    /// No snapshot may be open.
     ///
     /// `BadArgument` where the journal would be above 1,048,576 entries, then `NumbersSpent` where the
     /// numbers of its entries could pass 2^62; the book is then as it was. No entry is made. Takes no
@@ -47,7 +47,7 @@ impl<N: StoreName> Book<N> {
     /// their writers' hands, with their ids and shares. It needs no place in the journal of the round that ends.
     ///
     /// `BadArgument` and `NumbersSpent` as for [`Book::next_round`], then `JournalFull` where the new journal
-    /// has not an entry for the end of each open snapshot and one more; the book is then as it was. No entry is
+    /// has no room for an entry for the end of each open snapshot and one more; the book is then as it was. No entry is
     /// made. Takes no memory. The cost is that of dropping the entries of the round that ends.
     pub fn roll(&mut self, journal: u64) -> Result<(), Refusal>
         ensures answer { result ≡ roll_answer self.old.state journal }

@@ -22,7 +22,7 @@ HasParent rs r = is_base r.namespace r.parent rs ≡ true
 abbrev pub NamesStand : List Record → Option ℕ → List Bytes → Type 0
 NamesStand rs o names = IsSomeAnd o (λ place. AllByRecursion (λ name. IsSome (committed_at place name rs)) names)
 
--- the committed ancestors of a snapshot, where they are no more than so many
+-- the committed ancestors of a snapshot, where there are at most `most` of them
 abbrev pub chain : ℕ → List Record → Record → Option (List Record)
 chain most rs r = chain_from most rs r.namespace r.parent
 
@@ -104,7 +104,7 @@ Keeps-without_slot slot rs = keeps_found rs (without_slot slot rs) (λ place key
 pub Keeps-recharged : (slot : ℕ) (to : Usage) (rs : List Record) → Keeps rs (recharged slot to rs)
 Keeps-recharged slot to rs = keeps_found rs (recharged slot to rs) (λ place key r e is. find-recharged slot to (is_named place key) rs r (λ t. refl) (committed_no_slot slot r.content is) e)
 
--- ---- a key less, that no record has as its parent
+-- ---- without a key that no record has as its parent
 
 -- the other keys
 abbrev pub IsOther : ℕ → Bytes → ℕ → Bytes → Type 0

@@ -57,7 +57,7 @@ open_count-without p (t ∷ ts) r e = at (p t) refl (open_count-without p ts r)
     at true is next = rw is (let one : active_one t.content ≡ active_one r.content = ap (λ (x : Record). active_one x.content) (find-here p t ts r is e) in omega (arith, open_count-cons t ts))
     at false is next = rw is (let less = next (find-past p t ts r is e) in omega (arith, open_count-cons t (without_first p ts), open_count-cons t ts))
 
--- a record less that isn't active
+-- one record fewer, which isn't active
 idle_none : (c : Content) → is_active c ≡ false → active_one c ≡ 0
 idle_none (View layers) e = refl
 idle_none (Active s u) e = absurd (true≢false e)
@@ -78,14 +78,14 @@ open_count-filter keep idle (t ∷ ts) = at (keep t) refl (open_count-filter kee
     at true is next = omega (arith, open_count-cons t (filter keep ts), open_count-cons t ts)
     at false is next = let none = idle_none t.content (idle t is) in omega (arith, open_count-cons t ts)
 
--- the record of a slot less
+-- without the record of a slot
 pub open_count-without_slot : (slot : ℕ) (rs : List Record) (r : Record) → active_at slot rs ≡ Some r → open_count (without_slot slot rs) + 1 ≡ open_count rs
 open_count-without_slot slot rs r e =
     let less = open_count-without (is_slot slot) rs r e in
     let one = is_slot-active_one slot r (active_at-is_slot slot rs r e) in
     omega arith
 
--- a commit: one active less
+-- a commit: one active record fewer
 pub open_count-committed : (slot : ℕ) (name : Bytes) (labels : Option (List Label)) (layer : Tree) (number : ℕ) (rs : List Record) (r : Record) → active_at slot rs ≡ Some r
     → open_count (with_record (committed_as name labels layer number r) (without_slot slot rs)) + 1 ≡ open_count rs
 open_count-committed slot name labels layer number rs r e =
@@ -138,6 +138,6 @@ count_below (suc n) rs apart all = at (active_at n rs) refl (count_below n)
         let less = open_count-without_slot n rs r is in
         omega arith
 
--- at most so many are active as there are slots, since no two have the same one
+-- at most as many are active as there are slots, since no two have the same one
 pub open_count-most : (n : ℕ) (rs : List Record) → AllPairwise AreApart rs → AllByRecursion (λ r. HasLowSlot n r.content) rs → open_count rs ≤ n
 open_count-most n rs apart placed = count_below n rs apart placed

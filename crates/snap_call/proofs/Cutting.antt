@@ -131,7 +131,7 @@ malformed_cut key value bad = by (nat_le (length key) 4096) (nat_le (length valu
         let second : length value ≤ 4096 = grind (arith, nat_tests) in
         ap (λ k. is_label (k, cut 4096 value)) (cut_within 4096 key first) ∙ (ap (λ v. is_label (key, v)) (cut_within 4096 value second) ∙ bad)
 
--- the first that hasn't its form
+-- the first that is malformed
 malformed_found : {A : Type 0} (f : A → Bool) (xs : List A) (x : A) → find (λ y. not (f y)) xs ≡ Some x → (list_all f xs ≡ false) × (f x ≡ false)
 malformed_found f [] x e = absurd (cc)
 malformed_found {A} f (y ∷ ys) x e = by (f y) refl (malformed_found f ys x) e
@@ -359,7 +359,7 @@ module _ (s : State) (short : HasShortNames s) where
       ∙ (ap (λ f. whole_at name key labels f true (named_keys qs)) same
       ∙ sym (ap (λ b. whole_at name key labels (list_all is_update_path qs) b (named_keys qs)) both))
 
-  -- whose paths have their forms
+  -- whose paths are well-formed
   formed_update : (name key : Bytes) (labels : List Label) (paths : List Bytes) → list_all is_update_path paths ≡ true
       → looked name key (if replaces_all paths then (labels, option_map_or cut_path (find is_whole paths) []) else (labels, paths)) ≡ looked name key (labels, paths)
   formed_update name key labels [] each = refl

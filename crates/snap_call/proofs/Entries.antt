@@ -194,7 +194,7 @@ parents-added r rs ts old new counted more is q =
     let e = ap (count_by (has_parent q)) is ∙ count-with_record (has_parent q) r rs in
     omega (arith, e, counted q, more q)
 
--- so many records of the namespace are on the parent as it is counted
+-- as many records of the namespace are on the parent as it is counted to have
 children-alike : (place : ℕ) (key : Bytes) (rs : List Record) → IsOf place rs → count_by (has_parent key) rs ≡ child_count place key rs
 children-alike place key [] of = refl
 children-alike place key (r ∷ rs) of =

@@ -205,7 +205,7 @@ module _ (rs : List Record) (names : List (Option Name)) (at : AreIndexed rs nam
   pub indexed-same : (others : List (Option Name)) → ((k : ℕ) → name_in k others ≡ name_in k names) → AreIndexed rs others
   indexed-same others same = record { sorted = at.sorted; apart = at.apart; low = at.low; slots = λ k. same k ∙ at.slots k }
 
-  -- a record more
+  -- one more record
   module _ (r : Record) (new : has_key r.namespace r.key rs ≡ false) (few : HasLowSlot max_slots r.content) (free : (slot : ℕ) → is_slot slot r ≡ true → active_at slot rs ≡ None) where
     indexed-more : (others : List (Option Name)) → ((k : ℕ) → name_in k others ≡ option_map record_name_of (active_at k (with_record r rs))) → AreIndexed (with_record r rs) others
     indexed-more others slots = record {
@@ -224,7 +224,7 @@ module _ (rs : List Record) (names : List (Option Name)) (at : AreIndexed rs nam
         (put slot ∙ after_own slot (Some (record_name_of r)) names ∙ ap (option_map record_name_of) (sym (active_at-with_record_own slot r rs is (free slot is))))
         (λ k other ne. put k ∙ after_other k slot (Some (record_name_of r)) names other ∙ at.slots k ∙ ap (option_map record_name_of) (sym (active_at-with_record_other k r rs (is_slot-other slot k r ne is)))))
 
-  -- a record less
+  -- one record fewer
   indexed-less : (p : Record → Bool) (others : List (Option Name)) → ((k : ℕ) → name_in k others ≡ option_map record_name_of (active_at k (without_first p rs))) → AreIndexed (without_first p rs) others
   indexed-less p others slots = record {
     sorted = sorted-without p rs at.sorted;

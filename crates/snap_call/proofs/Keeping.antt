@@ -321,7 +321,7 @@ covered s slot r to good e less =
     (good.promised.within r.namespace (active_at-all (λ t. t.namespace < length s.namespaces) slot s.records r e (placed_below s good)))
     (charge_of-covers (is_slot slot) s.records r e) less
 
--- ---- a snapshot less
+-- ---- one snapshot fewer
 
 pub good_discarded : (s : State) (slot : ℕ) (r : Record) → Good s → active_at slot s.records ≡ Some r → Good (record s { records = without_slot slot s.records; entries = s.entries + 1 })
 good_discarded s slot r good e = record {

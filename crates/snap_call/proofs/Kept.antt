@@ -263,7 +263,7 @@ short_from (n ∷ ns) all =
     let bound : length n.name ≤ 255 = grind (arith, nat_tests) in
     (bound, short_from ns h.1)
 
--- each part of a configuration has its form
+-- each part of a configuration is well-formed
 seven : (a b d f g h k : Bool) → (a && (b && (d && (f && (g && (h && (k && true))))))) ≡ true → (a ≡ true) × (b ≡ true) × (d ≡ true) × (g ≡ true) × (h ≡ true) × (k ≡ true)
 seven a b d f g h k e =
     let p = and_parts a (b && (d && (f && (g && (h && (k && true)))))) e in
@@ -284,7 +284,7 @@ parts_formed c e = seven (is_root_text c.root) (are_spaces c.namespaces) (is_slo
 root_formed : (c : Config) → is_config c ≡ true → is_root_text c.root ≡ true
 root_formed c e = (parts_formed c e).0
 
--- the namespaces have their form, and their names are distinct
+-- the namespaces are well-formed, and their names are distinct
 namespaces_formed : (c : Config) → is_config c ≡ true → (list_all is_namespace c.namespaces ≡ true) × (have_distinct_names c.namespaces ≡ true)
 namespaces_formed c e =
     let each = list_all is_namespace c.namespaces in

@@ -241,7 +241,7 @@ good_created s namespace lease until place good spaced =
     (all-push (IsGuarding s.namespaces s.records) s.leases (empty_lease namespace lease until) good.promised.leased (subst (λ (o : Option ℕ). NamesStand s.records o []) (sym spaced) tt))
     (all-push NamesOnce s.leases (empty_lease namespace lease until) good.named_once (NamesOnce-empty namespace lease until))
 
--- a name more, of a committed snapshot of the lease's namespace
+-- one more name, of a committed snapshot of the lease's namespace
 module _ (ns : List Namespace) (rs : List Record) (namespace name : Bytes) (place : ℕ) (spaced : place_of namespace ns ≡ Some place) (there : IsSome (committed_at place name rs)) where
   name_more : (o : Option ℕ) (names : List Bytes) → o ≡ Some place → NamesStand rs o names → NamesStand rs o (names ++ name ∷ [])
   name_more None names e h = absurd (cc)
@@ -266,7 +266,7 @@ pub good_named : (s : State) (namespace lease name : Bytes) (place : ℕ) → Go
 good_named s namespace lease name place good spaced there =
     good_leasing s _ good (guarding-with_name s.namespaces s.records namespace name place spaced there lease s.leases good.promised.leased) (NamesOnce-with_name_added namespace lease name s.leases good.named_once)
 
--- a name less
+-- one name fewer
 names_fewer : (rs : List Record) (o : Option ℕ) (p : Bytes → Bool) (names : List Bytes) → NamesStand rs o names → NamesStand rs o (filter p names)
 names_fewer rs None p names h = absurd h
 names_fewer rs (Some place) p names h = all-filter (λ n. IsSome (committed_at place n rs)) p names h
@@ -283,7 +283,7 @@ pub good_dropped : (s : State) (namespace lease name : Bytes) → Good s → Goo
 good_dropped s namespace lease name good =
     good_leasing s _ good (guarding-without_name s.namespaces s.records namespace lease name s.leases good.promised.leased) (NamesOnce-with_name_dropped namespace lease name s.leases good.named_once)
 
--- a lease less
+-- one lease fewer
 pub good_released : (s : State) (namespace lease : Bytes) → Good s → Good (leasing s (without_lease s.leases namespace lease))
 good_released s namespace lease good =
     good_leasing s _ good (all-filter (IsGuarding s.namespaces s.records) (λ l. not (is_lease namespace lease l)) s.leases good.promised.leased) (all-filter NamesOnce (λ l. not (is_lease namespace lease l)) s.leases good.named_once)

@@ -137,7 +137,7 @@ module _ {X : Type 0} (keep : X → Bool) where
 
 -- ---- a slot
 
--- the record is charged so much
+-- the record, active in the slot and charged `to`
 abbrev pub with_charge : ℕ → Usage → Record → Record
 with_charge slot to r = record r { content = Active slot to }
 
@@ -218,7 +218,7 @@ module _ (r : Record) where
       at false lt true here next = let f = rw here at none in absurd (true≢false f)
       at false lt false here next = rw lt (rw here (next (rw here at none)))
 
--- ---- the first record that passes a test less
+-- ---- without the first record that passes a test
 
 module _ (p : Record → Bool) where
   pub all-without : (P : Record → Type 0) (rs : List Record) → AllByRecursion P rs → AllByRecursion P (without_first p rs)

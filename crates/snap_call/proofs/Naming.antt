@@ -219,7 +219,7 @@ distinct-with n (m ∷ ms) taken new distinct = at (is_taken m) refl (distinct-w
     h : (not (list_any (has_name m.name) ms) ≡ true) × (have_distinct_names ms ≡ true)
     h = and_parts (not (list_any (has_name m.name) ms)) (have_distinct_names ms) distinct
 
-    -- the new one hasn't the name of this one
+    -- the new one doesn't have the name of this one
     other : is_taken m ≡ true → has_name m.name n ≡ false
     other is = is_other m.name n (apart m.name n m ms (has_own m is) new)
 

@@ -62,7 +62,7 @@ abbrev pub slot_or_refusal : State → ℕ → Option ℕ → Result ℕ Refusal
 slot_or_refusal s place o =
     option_map_or (λ slot. tested Err (must (covers (limit_at place s.namespaces) (plus (charge_of place s.records) one)) (over_limit s place) ∷ must (nat_le s.next_id most_number) NumbersSpent ∷ []) (Ok slot)) o (Err TooManyActives)
 
--- a charge, where so much is granted
+-- a charge to what is granted, or a refusal where nothing is
 abbrev pub charge_to : State → ℕ → Record → Option Usage → State × Reply
 charge_to s slot r o = option_map_or (λ to. (record s { records = recharged slot to s.records; entries = s.entries + 1 }, Charged to)) o (refused s (over_limit s r.namespace))
 

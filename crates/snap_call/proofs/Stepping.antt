@@ -1,4 +1,4 @@
--- What holds of a state and one with an entry more and as many slots holds of a state and what a call leaves, but for a session, which may leave it as it was.
+-- What holds of a state and another with one more entry and as many slots holds of a state and what a call leaves, but a session may leave it as it was.
 use Rattle.std.proofs.Common.{◌≡◌, ℕ, ◌+◌, List, Bool, true, false, Some, None, refl}
 use Rattle.std.specs.Option.{option_map_or, is_some}
 use Rattle.std.specs.Prelude.{◌&&◌, ◌||◌, nat_le, nat_lt, count_by, if◌then◌else◌, Option, Result, Ok, Err}

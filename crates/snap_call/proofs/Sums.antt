@@ -18,7 +18,7 @@ use Rattle.snap_call.specs.Records.{record_cmp, is_slot, active_at, charge_of, w
 abbrev pub part_of : ℕ → Record → Usage
 part_of place r = if r.namespace == place then usage_of r.content else no_usage
 
--- the namespace's charge, once the record is charged so much
+-- the namespace's charge, once the record is charged `to`
 abbrev pub charge_with : Record → Usage → List Record → Usage
 charge_with r to rs = plus (minus (charge_of r.namespace rs) (usage_of r.content)) to
 
@@ -129,7 +129,7 @@ charge_of-with_record_own r rs = charge_of-with_record r.namespace r rs ∙ ap (
 pub charge_of-with_record_other : (place : ℕ) (r : Record) (rs : List Record) → place ≢ r.namespace → charge_of place (with_record r rs) ≡ charge_of place rs
 charge_of-with_record_other place r rs ne = charge_of-with_record place r rs ∙ ap (plus (charge_of place rs)) (part_of-other place r ne) ∙ plus-none (charge_of place rs)
 
--- a record less
+-- one record fewer
 charge_of-without_sum : (p : Record → Bool) (rs : List Record) (r : Record) → find p rs ≡ Some r → charge_of r.namespace rs ≡ plus (charge_of r.namespace (without_first p rs)) (usage_of r.content)
 charge_of-without_sum p rs r e = charge_of-without r.namespace p rs r e ∙ ap (plus (charge_of r.namespace (without_first p rs))) (part_of-own r)
 

@@ -12,7 +12,7 @@ use Rattle.snap_call.specs.declared.config.Namespace.{Namespace}
 use Rattle.snap_call.specs.Namespaces.{has_name, most_namespaces}
 use Rattle.snap_call.specs.Records.{max_slots, max_journal, most_ancestors}
 
--- 1 to so many bytes, none of them NUL
+-- 1 to `most` bytes, none of them NUL
 abbrev pub is_text : ℕ → Bytes → Bool
 is_text most bs = nat_le 1 (length bs) && nat_le (length bs) most && not (list_any (λ b. b == 0) bs)
 
@@ -57,7 +57,7 @@ is_layer_limit inodes = nat_le 1 inodes && nat_le inodes most_inodes
 abbrev pub is_ancestor_limit : ℕ → Bool
 is_ancestor_limit most = nat_le 1 most && nat_le most most_ancestors
 
--- the part of a configuration has its form; there are at most 4096 namespaces, with distinct names
+-- the part of a configuration is well-formed; there are at most 4096 namespaces, with distinct names
 abbrev pub has_form : Config → ConfigField → Bool
 has_form c fields.Root = is_root_text c.root
 has_form c fields.Namespaces = list_all is_namespace c.namespaces && nat_le (length c.namespaces) most_namespaces && have_distinct_names c.namespaces
@@ -71,7 +71,7 @@ has_form c fields.Ancestors = is_ancestor_limit c.ancestors
 abbrev pub config_fields : List ConfigField
 config_fields = fields.Root ∷ fields.Namespaces ∷ fields.Slots ∷ fields.Journal ∷ fields.FirstId ∷ fields.LayerInodes ∷ fields.Ancestors ∷ []
 
--- what a store can be opened with: each part has its form
+-- what a store can be opened with: each part is well-formed
 abbrev pub is_config : Config → Bool
 is_config c = list_all (has_form c) config_fields
 

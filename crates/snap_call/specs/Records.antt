@@ -123,7 +123,7 @@ abbrev pub without_keys : ℕ → List Bytes → List Record → List Record
 without_keys place [] rs = rs
 without_keys place (key ∷ keys) rs = without_keys place keys (without_key place key rs)
 
--- the records after the one that is active in the slot is charged so much
+-- the records, once the one that is active in the slot is charged `to`
 abbrev pub recharged : ℕ → Usage → List Record → List Record
 recharged slot to [] = []
 recharged slot to (r ∷ rs) = if is_slot slot r then record r { content = Active slot to } ∷ rs else r ∷ recharged slot to rs
@@ -137,7 +137,7 @@ abbrev pub relabelled : ℕ → Bytes → List Label → ℕ → List Record →
 relabelled place key labels number [] = []
 relabelled place key labels number (r ∷ rs) = if is_named place key r then with_labels labels number r ∷ rs else r ∷ relabelled place key labels number rs
 
--- the infos of the first so many records of the namespace at the place whose key comes after this text, and that have every part of the filter, in the order of their keys
+-- the infos of the first `most` records of the namespace at the place whose key comes after this text, and that have every part of the filter, in the order of their keys
 abbrev pub info_page : ℕ → Bytes → ℕ → Filter → List Record → List Info
 info_page place after most asked rs = map info_of (take most (filter (λ r. (r.namespace == place) && is_lt (slice_cmp nat_cmp after r.key) && is_match (info_of r) asked) rs))
 

@@ -42,7 +42,7 @@ abbrev pub joined_records : List (List Record) → List Record
 joined_records [] = []
 joined_records (rs ∷ rss) = rs ++ joined_records rss
 
--- the lists are those of the namespaces, and have so many records
+-- the lists are those of the namespaces, and have `count` records in all
 pub record AreCounted (rss : List (List Record)) (count : ℕ) : Type 0 where
   pub from : AreFrom 0 rss
   pub counted : count ≡ length (joined_records rss)
@@ -55,7 +55,7 @@ beginning key = take 16 key
 abbrev pub beginning_cmp : ArrayVec ℕ → ArrayVec ℕ → Ordering
 beginning_cmp b c = slice_cmp nat_cmp b.items c.items
 
--- each group has records whose keys begin with its bytes, one at the least, the groups are in their order, and all records are of one namespace
+-- each group has records whose keys begin with its bytes, at least one, the groups are in their order, and all records are of one namespace
 pub record AreGroups (es : List (ArrayVec ℕ × List Record)) : Type 0 where
   pub begun : AllByRecursion (λ e. AllByRecursion (λ r. beginning r.key ≡ e.0.items) e.1) es
   pub full : AllByRecursion (λ e. e.1 ≢ []) es
@@ -92,10 +92,10 @@ is_key_after after r = is_lt (slice_cmp nat_cmp after r.key)
 abbrev pub is_asked : Filter → Record → Bool
 is_asked asked r = is_match (info_of r) asked
 
--- the infos of the first so many records that have every part of the filter
+-- the infos of the first `most` records that have every part of the filter
 abbrev pub infos_of : ℕ → Filter → List Record → List Info
 infos_of most asked rs = map info_of (take most (filter (is_asked asked) rs))
 
--- the infos, and up to so many with those of the records whose keys come after the text and that have every part of the filter
+-- the infos, filled up to `most` by those of the records whose keys come after the text and that have every part of the filter
 abbrev pub page_after : Bytes → ℕ → Filter → List Info → List Record → List Info
 page_after after most asked infos rs = infos ++ infos_of (most - length infos) asked (filter (is_key_after after) rs)

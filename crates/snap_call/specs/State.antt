@@ -23,7 +23,7 @@ opening c = record { root = c.root; namespaces = c.namespaces; slots = c.slots; 
 abbrev pub over_limit : State → ℕ → Refusal
 over_limit s place = OverLimit ((limit_at place s.namespaces).blocks - (charge_of place s.records).blocks) ((limit_at place s.namespaces).inodes - (charge_of place s.records).inodes)
 
--- the committed records from a parent upwards, nearest first; nothing where one is missing or isn't committed, or where there are more than so many
+-- the committed records from a parent upwards, nearest first; nothing where one is missing or isn't committed, or where there are more than n
 abbrev pub chain_from : ℕ → List Record → ℕ → Bytes → Option (List Record)
 chain_from n rs place [] = Some []
 chain_from zero rs place (b ∷ bs) = None
@@ -39,7 +39,7 @@ is_present place parent rs = bytes_eq parent [] || has_key place parent rs
 abbrev pub is_base : ℕ → Bytes → List Record → Bool
 is_base place parent rs = bytes_eq parent [] || is_some (committed_at place parent rs)
 
--- a snapshot on it would have more committed ancestors than so many
+-- a snapshot on it would have more than `most` committed ancestors
 abbrev pub is_too_deep : ℕ → ℕ → Bytes → List Record → Bool
 is_too_deep most place parent rs = not (is_some (chain_from most rs place parent))
 

@@ -49,7 +49,7 @@ tested by [] next = next
 tested by (must holds why ∷ later) next = if holds then tested by later next else by why
 tested by (must_not holds why ∷ later) next = if holds then by why else tested by later next
 
--- what follows where the fields of a call have their form
+-- what follows where the fields of a call are well-formed
 abbrev pub formed : State → Bool → State × Reply → State × Reply
 formed s holds next = tested (refused s) (must holds BadArgument ∷ []) next
 
@@ -110,7 +110,7 @@ prepare_view s namespace key parent labels = unless_refused s (place_for s names
 abbrev pub greater : Usage → Usage → Usage
 greater a b = record { blocks = max a.blocks b.blocks; inodes = max a.inodes b.inodes }
 
--- the limit of the namespace at a place covers its charge, once what is charged the one amount is charged the other
+-- the limit of the namespace at a place covers its charge, once what is charged one amount is charged the other
 abbrev pub fits_limit : State → ℕ → Usage → Usage → Bool
 fits_limit s place held to = covers (limit_at place s.namespaces) (plus (minus (charge_of place s.records) held) to)
 
@@ -134,7 +134,7 @@ has_named s place lease = option_map_or (has_lease s.leases (name_at place s.nam
 abbrev pub leases_after : State → ℕ → Bytes → Option Bytes → List Lease
 leases_after s place name lease = option_map_or (λ l. with_name_added s.leases (name_at place s.namespaces) l name) lease s.leases
 
--- the name, the lease and the labels have their forms, where they are given
+-- the name, the lease and the labels are well-formed, where they are given
 abbrev pub are_formed : Bytes → Option Bytes → Option (List Label) → Bool
 are_formed name lease labels = is_key name && option_map_or is_key lease true && option_map_or are_labels labels true
 
@@ -209,7 +209,7 @@ step s (calls.View namespace key parent labels) given = prepare_view s namespace
 step s (calls.Remove namespace key) given = formed s (is_key key) (at_record s namespace key (λ place r.
     tested (refused s) (must_not (has_children place key s.records) HasChildren ∷ must_not (is_active r.content) InUse ∷ must_not (is_guarded s.leases namespace key) Leased ∷ []) (removed_at s place key, Removed (usage_of r.content))))
 step s (calls.Update namespace key labels paths) given = formed s (is_key key && is_well_formed labels paths) (at_record s namespace key (update_record s key labels paths))
--- the infos of the snapshots of a namespace that come after a key and have every part of a filter, at most so many (containerd's Snapshotter.Walk, page by page)
+-- the infos of the snapshots of a namespace that come after a key and have every part of a filter, at most `most` (containerd's Snapshotter.Walk, page by page)
 step s (calls.Walk namespace after most asked) given = formed s (is_start after && is_page most) (in_namespace s namespace (λ place. (counted s, Page (info_page place after most asked s.records))))
 -- a namespace's other limit has to cover what it is charged
 step s (calls.SetLimit namespace limit) given = formed s (is_limit limit) (in_namespace s namespace (λ place.
@@ -239,7 +239,7 @@ step s (calls.Sweep namespace moment) given = sweep s namespace moment
 abbrev pub IsOpenSlot : ℕ → Option Record → Type 0
 IsOpenSlot id o = IsSomeAnd o (λ r. r.id ≡ id)
 
--- and its charge covers so much
+-- and its charge covers `now`
 abbrev pub IsCovered : ℕ → Usage → Option Record → Type 0
 IsCovered id now o = IsSomeAnd o (λ r. (r.id ≡ id) × Covers (usage_of r.content) now)
 

@@ -64,7 +64,7 @@ impl Records {
         parent.is_empty() || self.committed_at(place, parent).is_some()
     }
 
-    // Whether a snapshot on the parent has at most so many committed ancestors, and all are there.
+    // Whether a snapshot on the parent has at most `most` committed ancestors, and all are there.
     fn has_chain(&self, most: u64, place: usize, parent: &str) -> bool
         ensures { result ≡ is_some (chain_from most self.now place parent.now) }
     {
@@ -80,7 +80,7 @@ impl Records {
         }
     }
 
-    /// Whether a snapshot on the parent would have more than so many committed ancestors. Takes no
+    /// Whether a snapshot on the parent would have more than `most` committed ancestors. Takes no
     /// memory. It searches the records once for each ancestor.
     pub fn is_too_deep(&self, most: u64, place: usize, parent: &str) -> bool
         ensures { result ≡ is_too_deep most place parent.now self.now }

@@ -73,7 +73,7 @@ pub enum ConfigField {
     Ancestors,
 }
 
-/// Whether the namespaces have their forms, are no more than a store can have, and have distinct names.
+/// Whether the namespaces are well-formed, are no more than a store can have, and have distinct names.
 fn are_formed(namespaces: &[Namespace]) -> bool
     ensures { result ≡ (list_all is_namespace namespaces.now && nat_le (length namespaces.now) most_namespaces && have_distinct_names namespaces.now) }
 {
@@ -82,14 +82,14 @@ fn are_formed(namespaces: &[Namespace]) -> bool
         && has_distinct_names(namespaces)
 }
 
-/// Whether a layer can have at most so many inodes.
+/// Whether a layer can have a limit of `inodes` inodes.
 fn is_layer_limit(inodes: u64) -> bool
     ensures { result ≡ is_layer_limit inodes }
 {
     1 <= inodes && inodes <= MAX_LAYER_INODES as u64
 }
 
-/// Whether a snapshot can be allowed so many committed ancestors.
+/// Whether a snapshot can be allowed `most` committed ancestors.
 fn is_ancestor_limit(most: u64) -> bool
     ensures { result ≡ is_ancestor_limit most }
 {

@@ -106,18 +106,18 @@ fn cut_asked(state: &State, namespace: &Text, after: &Text, most: u64, asked: &m
 impl Call {
     /// Cuts the call's texts to what the journal keeps of them, by the state that the call is made on.
     ///
-    /// A text beyond its limit keeps so many bytes, one more, and the rest of that one's character: a namespace's name 255,
-    /// a key, a parent, a name, a lease, and what a walk begins after 1024. Of labels of which one is malformed the first
-    /// such alone is left, with at most 4096 bytes of key and of value, counted alike; of an update's labels and paths
-    /// what [`cut_update`] leaves. What has its form and isn't looked at goes: the labels of a new snapshot, and the filter
-    /// of a walk, in a namespace that the state hasn't; the labels and paths of an update of a snapshot that it hasn't.
-    /// Nor is the filter of a malformed walk kept.
+    /// A text beyond its limit keeps as many bytes as that, one more, and the rest of that one's character: a
+    /// namespace's name 255, a key, a parent, a name, a lease, and what a walk begins after 1024. Of labels of which
+    /// one is malformed the first such alone is left, with at most 4096 bytes of key and of value, counted alike; of an
+    /// update's labels and paths what [`cut_update`] leaves. What is well-formed and isn't looked at goes: the labels
+    /// of a new snapshot, and the filter of a walk, in a namespace that the state doesn't have; the labels and paths of
+    /// an update of a snapshot that it doesn't have. Nor is the filter of a malformed walk kept.
     ///
     /// So the call is answered as before and leaves the same, by this state, whose namespaces have names of at most 255
     /// bytes, as those of each store have. The paths of an update of a snapshot that is there, and the filter of a walk
-    /// in a namespace that is there, stay as they are. Takes memory only for what is cut; fails only where it is wanting,
-    /// and then some texts may be cut. The cost grows with the numbers of labels and paths, with the logarithms of
-    /// the numbers of namespaces and records, and with what is cut.
+    /// in a namespace that is there, stay as they are. Takes memory only for what is cut; fails only where memory is
+    /// refused, and then some texts may be cut. The cost grows with the numbers of labels and paths, with the
+    /// logarithms of the numbers of namespaces and records, and with what is cut.
     #[tactic(auto, using(crate::proofs::Cutting::step_kept))]
     pub fn cut(&mut self, state: &State) -> Result<(), AllocError>
         ensures kept { OnOk result (self.new ≡ kept state.now self.old) }

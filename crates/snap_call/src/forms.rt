@@ -7,7 +7,7 @@ use crate::config::Namespace;
 use crate::limits::{MAX_KEY_BYTES, MAX_LIMIT, MAX_NAMESPACE_BYTES, MAX_PAGE, MAX_SLOTS};
 use snap_usage::Usage;
 
-/// Whether the text has 1 to so many bytes, none of them NUL.
+/// Whether the text has 1 to `most` bytes, none of them NUL.
 fn is_text(most: usize, text: &str) -> bool
     ensures { result ≡ is_text most text.now }
 {
@@ -42,14 +42,14 @@ pub fn is_parent(text: &str) -> bool
     text.is_empty() || is_key(text)
 }
 
-/// Whether so many infos can be asked for with one walk: 1 to 64. Takes no memory.
+/// Whether one walk can ask for `most` infos: 1 to 64. Takes no memory.
 pub fn is_page(most: u64) -> bool
     ensures { result ≡ is_page most }
 {
     1 <= most && most <= MAX_PAGE
 }
 
-/// Whether a store can have so many slots: 1 to 4096. Takes no memory.
+/// Whether a store can have `slots` slots: 1 to 4096. Takes no memory.
 pub(crate) fn is_slots(slots: u64) -> bool
     ensures { result ≡ is_slots slots }
 {

@@ -9,7 +9,7 @@ use std::alloc::{AllocError, Global};
 use std::marker::Model;
 
 // The slots of a stretch, which are passed over at once where all are open. So the lowest free one of
-// 4096 is found in 128 steps at the most.
+// 4096 is found in 128 steps at most.
 const STRETCH: u64 = 64;
 
 // The place of a snapshot's namespace and its key.

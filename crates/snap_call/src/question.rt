@@ -23,7 +23,7 @@ pub enum Question {
         key: Text,
     },
     /// Asks for the infos of the snapshots of a namespace whose keys come after a text and that have every part of a
-    /// filter, at most so many (containerd's `Walk`).
+    /// filter, at most `most` (containerd's `Walk`).
     Walk {
         namespace: Text,
         after: Text,

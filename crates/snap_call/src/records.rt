@@ -172,7 +172,7 @@ impl Records {
 
     /// The lowest slot below a number that is not open, if there is one. Takes no memory. It goes over
     /// the open slots below that one, where 64 that follow on each other from a multiple of 64 are one
-    /// step: of 4096 slots it takes 128 steps at the most.
+    /// step: of 4096 slots it takes 128 steps at most.
     pub fn lowest_free(&self, slots: u64) -> Option<u64>
         ensures { result ≡ lowest_free slots self.now }
     {
@@ -188,7 +188,7 @@ impl Records {
     }
 
     /// Puts a record in its place. Its key is new in its namespace, and where it is active its slot is
-    /// free. Where memory is wanting, the records are as they were and the error gives the record back.
+    /// free. Where memory is refused, the records are as they were and the error gives the record back.
     pub fn insert(&mut self, added: Record) -> Result<(), (NoMemory, Record)>
         requires new { has_key added.namespace added.key self.old ≡ false }
         requires few { length self.old + 1 < 2 ^ 64 }
@@ -247,8 +247,8 @@ impl Records {
         Some(taken)
     }
 
-    /// Takes the records of these keys in the namespace at the place away, and gives them to `removed`. A key that
-    /// it has not changes nothing. Takes no memory.
+    /// Takes the records of these keys in the namespace at the place away, and gives them to `removed`. A key that it
+    /// doesn't have changes nothing. Takes no memory.
     pub fn take_keys(&mut self, place: usize, keys: &[Text], removed: &mut Removed)
         ensures { self.new ≡ without_keys place keys.now self.old }
     {
@@ -257,7 +257,7 @@ impl Records {
         }
     }
 
-    /// Charges the record of a slot for so much. Where the slot is not open, the records are as
+    /// Sets the charge of a slot's record to `to`. Where the slot is not open, the records are as
     /// they were. Takes no memory.
     pub fn recharge(&mut self, slot: u64, to: Usage)
         ensures { self.new ≡ recharged slot to self.old }
@@ -280,8 +280,8 @@ impl Records {
     }
 
     /// The infos of the records of the namespace at the place whose keys come after the text and that
-    /// have every part of the filter: the first so many of them, in the order of their keys. The cost
-    /// grows with the records that are passed over, and with the texts and labels of the infos.
+    /// have every part of the filter: the first `most` of them, in the order of their keys. The cost grows with the
+    /// records that are passed over, and with the texts and labels of the infos.
     pub fn page(
         &self,
         alloc: Global,

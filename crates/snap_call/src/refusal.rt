@@ -12,8 +12,7 @@ use thiserror::Error;
 /// was but for the journal, which records the refused call.
 #[derive(Clone, Copy, Debug, PartialEq, Eq, Error)]
 pub enum Refusal {
-    /// A key, a name, a parent, a lease, a label, a namespace, a limit or a part of a configuration has
-    /// not its form.
+    /// A key, a name, a parent, a lease, a label, a namespace, a limit or a part of a configuration is malformed.
     #[error("bad argument")]
     BadArgument,
     /// The store has no such namespace.
@@ -61,7 +60,7 @@ pub enum Refusal {
     /// As many snapshots are open as the store may have: all its slots are taken.
     #[error("too many active snapshots")]
     TooManyActives,
-    /// The namespace's limit does not cover the amount; so much was free.
+    /// The namespace's limit does not cover the amount; the fields say how much was free.
     #[error("over the limit: {free_blocks} blocks and {free_inodes} inodes are free")]
     OverLimit { free_blocks: u64, free_inodes: u64 },
     /// The new limit does not cover what the namespace is charged.

@@ -33,8 +33,7 @@ impl Removed {
         }
     }
 
-    /// No records, and room for so many. Takes memory for them without their texts and layers, and none where it is
-    /// for 0 records.
+    /// No records, and room for `count`. Takes memory for them without their texts and layers, and none for 0 records.
     pub fn with_room(alloc: Global, count: usize) -> Result<Removed, AllocError>
         ensures sure { count ≡ 0 → IsOk result }
     {

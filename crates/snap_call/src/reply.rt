@@ -40,7 +40,7 @@ pub enum Reply {
     Mounts(Sequence<Mount>),
     /// The infos of a walk, in the order of their keys.
     Page(Sequence<Info>),
-    /// A namespace came, went or has another limit; or a lease came, went, or has a name more or less.
+    /// A namespace came, went or has another limit; or a lease came, went, gained a name or lost one.
     Done,
     /// The keys of the snapshots that a sweep took away, in the order of their bytes, the number of
     /// leases that went, and what the snapshots were charged.

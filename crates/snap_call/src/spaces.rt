@@ -37,7 +37,7 @@ impl Spaces {
         }
     }
 
-    /// Puts a record in its place. Where memory is wanting, the records are as they were and the
+    /// Puts a record in its place. Where memory is refused, the records are as they were and the
     /// error gives the record back.
     ///
     /// The first record of a namespace makes room for the namespaces at its place and below. The
@@ -95,7 +95,7 @@ impl Spaces {
     }
 }
 
-/// Makes room for the namespaces at the place and below. Where memory is wanting, there may be room
+/// Makes room for the namespaces at the place and below. Where memory is refused, there may be room
 /// for some of them.
 fn grow(spaces: &mut Vec<Space>, place: usize) -> Result<(), AllocError>
     requires { AreFrom 0 spaces.old.items }

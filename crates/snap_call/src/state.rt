@@ -228,8 +228,8 @@ impl State {
     }
 
     /// The infos of the snapshots of the namespace at the place whose keys come after the text and that have
-    /// every part of the filter: the first so many of them, in the order of their keys. Takes memory for the
-    /// infos, and without a name in the filter for copies of the text.
+    /// every part of the filter: the first `most` of them, in the order of their keys. Takes memory for the infos, and
+    /// without a name in the filter for copies of the text.
     ///
     /// Where the filter names the key it is one look-up. Else the cost grows with the snapshots of the
     /// namespace that are passed over, also where the filter names the parent, and with the texts and labels

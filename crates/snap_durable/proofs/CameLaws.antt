@@ -37,7 +37,7 @@ at_end_before (Some xs) None h e = absurd h
 at_end_before (Some xs) (Some ys) h e = h ∙ e
 
 module _ {A D : Type 0} {g : Ghosts D} (effect : Effects A) (changes : A → List ℕ → Bool) (mark : A → List ℕ → List ℕ) (keeping : Bool → A → A) (settled : A → Bool) (limit : ℕ) (v : A) (log : Log D g) (first before : Option (List ℕ)) where
-  -- so much of an input came, and its lines were answered
+  -- a first part of an input came, and its lines were answered
   pub record Came (w : A) (s : Batched) (log_new : Log D g) (left after : Option (List ℕ)) : Type 0 where
     pub read : List ℕ
     pub consumed : Consumes first left read

@@ -14,7 +14,7 @@ use Rattle.snap_durable.specs.Served.{Done, IsReplayed, text_limit}
 use Rattle.snap_durable.specs.declared.logged.Unserved.{Unserved}
 use Rattle.snap_durable.specs.declared.logged.Unserved.TheVariants.{Replay, Differs, NotRebased, Ended}
 
--- With which lines a log goes on that has these sums: none, where its marks agree; else, where that is wanted, a mark from which on they are compared anew.
+-- The lines with which a log of these sums goes on: none, where its marks agree; else, where that is wanted, a mark from which on they are compared anew.
 abbrev pub Starts : Bool → Sums → List ℕ → Type 0
 Starts rebases s start = ((marks_agree s ≡ true) × (start ≡ [])) ⊎ ((marks_agree s ≡ false) × (rebases ≡ true) × (start ≡ rebased_mark s ++ 10 ∷ []))
 

@@ -1,4 +1,4 @@
--- What becomes of the lines of an input that come in parts, those of which that change something are kept before they are carried out.
+-- What becomes of the lines of an input that come in parts, where those that change something are kept before they are carried out.
 use Rattle.std.specs.Prelude.{◌≡◌, ◌⊎◌, ℕ, ◌≤◌, Bool, true, not, ◌&&◌, ◌||◌, false, List, [], ◌∷◌, ◌++◌, length, take, Option, None, if◌then◌else◌}
 use Rattle.std.specs.Io.KnownBytes.{Appends}
 use Rattle.snap_log.specs.Batches.{Batched, batched, none_yet}
@@ -9,11 +9,11 @@ use Rattle.snap_lines.specs.Transcripts.{Stops}
 use Rattle.snap_lines.specs.declared.stop.Stop.{Stop}
 use Rattle.snap_durable.specs.Serves.{Serves}
 
--- what is left of an input in whole lines, where of each so many bytes are kept
+-- what is left of an input in whole lines, where at most `limit` bytes of each are kept
 abbrev pub whole_in : ℕ → List ℕ → List ℕ
 whole_in limit bytes = (batched (none_yet limit) bytes).whole
 
--- of a line so many bytes are kept: one more than it may have
+-- the most bytes that are kept of a line: one more than it may have
 abbrev pub line_limit : ℕ
 line_limit = 16777217
 

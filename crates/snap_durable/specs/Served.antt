@@ -83,7 +83,7 @@ pub record IsReplayed {A : Type 0} (effect : Effects A) (v : A) (text : List ℕ
   pub answers : List ℕ
   pub serves : Serves effect v (lines_of (whole_in text_limit text)) answers w
 
--- so much of a log's text was carried out
+-- the first `at` bytes of a log's text were carried out
 pub record Carried {A D : Type 0} {g : Ghosts D} (effect : Effects A) (v : A) (w : A) (s : Batched) (at : ℕ) (log : Log D g) : Type 0 where
   pub read : List ℕ
   pub answers : List ℕ

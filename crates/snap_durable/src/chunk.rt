@@ -7,10 +7,10 @@ use std::alloc::{AllocError, Global};
 // The most reads, more than there will be.
 pub(crate) const READS: u64 = u64::MAX;
 
-// Of a line so many bytes are kept: one more than a line has, by which a longer one is known.
+// The most bytes that are kept of a line: one more than a line may have, by which a longer one is known.
 pub(crate) const LIMIT: usize = MAX_LINE_BYTES + 1;
 
-// A read takes at most so many bytes.
+// The most bytes that a read takes.
 const CHUNK: usize = 65_536;
 
 // Room for a read.

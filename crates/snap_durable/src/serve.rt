@@ -94,12 +94,12 @@ fn finish<T: KeepLine, W: Write, D: Disk>(
 
 /// Serves the lines of an input: those of a read that change something are added to the log, as one, and then all of
 /// them are carried out, and their answers written and flushed before the next read. A line in pieces waits. Blanks
-/// before a line are let go, and of a line that is too long all but 16,777,217 bytes. Where the log can't keep the
-/// lines of a read that change something, each of them is refused, and the others are answered.
+/// before a line are dropped, and so is all but the first 16,777,217 bytes of a line that is too long. Where the log
+/// can't keep the lines of a read that change something, each of them is refused, and the others are answered.
 ///
 /// Where it ends well, all lines are answered and the log has those that were kept. Whatever it answers, a crash leaves
-/// the lines that were kept of a first part of the input; a line that was answered, and not refused for want of the log,
-/// is there where it changes something.
+/// the lines that were kept of a first part of the input; a line that was answered, and not refused because the log
+/// couldn't keep it, is there where it changes something.
 ///
 /// `Stopped` with `InputFailed` where a read failed, or the input's end didn't come within 18,446,744,073,709,551,615
 /// reads; with `OutputFailed` where a write of an answer failed; with `OutOfMemory` where memory was refused. `Unknown`

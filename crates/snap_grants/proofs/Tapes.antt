@@ -17,7 +17,7 @@ sum_same (suc n) f g same =
     let b = same n (omega arith) in
     omega (arith, a, b)
 
--- one place has so much more
+-- at one place f is greater than g by `more`
 pub sum_more : (n s more : ℕ) (f g : ℕ → ℕ) → s < n → (f s ≡ more + g s) → ((k : ℕ) → eqb s k ≡ false → f k ≡ g k) → sum_below n f ≡ more + sum_below n g
 sum_more zero s more f g low here there = absurd (omega (arith, low))
 sum_more (suc n) s more f g low here there = at (eqb s n) refl (λ below. sum_more n s more f g below here there)

@@ -18,7 +18,7 @@ use Rattle.snap_grants.specs.Grants.{Stored, Origin, weight, weights}
 
 -- ---- weights
 
--- a record more, in its place
+-- one more record, in its place
 pub weights-with_record : (h : Stored → ℕ) (ns : List Namespace) (r : Record) (rs : List Record) → weights h ns (with_record r rs) ≡ weight h ns r r.content + weights h ns rs
 weights-with_record h ns r [] = refl
 weights-with_record h ns r (t ∷ ts) = at (is_lt (record_cmp r t)) (weights-with_record h ns r ts)

@@ -96,7 +96,7 @@ turned whole part to =
     let rest = minus whole part in
     record { blocks = min (rest.blocks + to.blocks) 18446744073709551615; inodes = min (rest.inodes + to.inodes) 18446744073709551615 }
 
--- no open snapshots, in a store with so many slots
+-- no open snapshots, in a store with `slots` slots
 abbrev pub no_shares : ℕ → List (Option Usage)
 no_shares slots = replicate slots None
 

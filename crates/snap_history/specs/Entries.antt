@@ -94,7 +94,7 @@ abbrev pub refusal_in : Reply → Option Refusal
 refusal_in (replies.Refused why) = Some why
 refusal_in reply = None
 
--- what is told of the entry of this number, after which the namespace is charged so much, if one is asked for
+-- what is told of the entry of this number, with the namespace's charge after it, if one is asked for
 abbrev pub entry_info : ℕ → Entry → Option Usage → EntryInfo
 entry_info number e charge = record {
   number = number;

@@ -84,6 +84,6 @@ abbrev pub entries_from : ℕ → List Entry → List EntryInfo
 entries_from number [] = []
 entries_from number (e ∷ es) = entry_info (number + 1) e None ∷ entries_from (number + 1) es
 
--- those of a greater number, at most so many
+-- those of a number greater than `after`, at most `most`
 abbrev pub history_page : ℕ → ℕ → List EntryInfo → List EntryInfo
 history_page after most infos = take most (filter (λ info. nat_lt after info.number) infos)

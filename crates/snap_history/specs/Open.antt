@@ -15,12 +15,12 @@ use Rattle.snap_history.specs.declared.open.OpenShare.{OpenShare}
 abbrev pub open_share : Record → OpenShare
 open_share r = record { namespace = r.namespace; charged = usage_of r.content }
 
--- those of the first slots, so many
+-- those of the slots below this number
 abbrev pub open_below : ℕ → List Record → List (Option OpenShare)
 open_below zero rs = []
 open_below (suc slot) rs = open_below slot rs ++ option_map open_share (active_at slot rs) ∷ []
 
--- those of all slots of a store that has so many
+-- those of all `slots` slots of a store
 abbrev pub open_shares : ℕ → List Record → List (Option OpenShare)
 open_shares slots rs = open_below slots rs
 

@@ -47,7 +47,7 @@ fn charge_before(now: Usage, changes: &[Change]) -> Usage
     charge
 }
 
-// The entries of the namespace that have a greater number, at most so many, from the shares and the charge
+// The entries of the namespace that have a number greater than `after`, at most `most`, from the shares and the charge
 // before all entries; the first entry has the number after `before`.
 fn infos(
     alloc: Global,
@@ -146,10 +146,10 @@ fn last_made(entries: &[SharedEntry], name: &str) -> Option<usize>
     None
 }
 
-/// The entries of a round that are a namespace's and have a greater number than `after`, in order, at most
-/// so many, each with what the namespace is charged after it: since the last that made the namespace, where one of
-/// them did. `last` is the number of the last entry, `now` what the namespace is charged after it, and `held` what
-/// its open snapshots were charged before the entries, a place for each slot.
+/// The entries of a round that are a namespace's and have a greater number than `after`, in order, at most `most`, each
+/// with what the namespace is charged after it: since the last that made the namespace, where one of them did. `last`
+/// is the number of the last entry, `now` what the namespace is charged after it, and `held` what its open snapshots
+/// were charged before the entries, a place for each slot.
 ///
 /// The cost grows with the entries, and the memory too: a change for each, and what is answered.
 pub fn history(
@@ -184,7 +184,7 @@ pub fn history(
     )
 }
 
-// The entries that have a greater number, at most so many; the first entry has the number after `before`.
+// The entries that have a number greater than `after`, at most `most`; the first entry has the number after `before`.
 fn page_of(
     alloc: Global,
     entries: &[SharedEntry],
@@ -206,8 +206,8 @@ fn page_of(
     Ok(infos)
 }
 
-/// The entries of a round that have a greater number than `after`, in order, at most so many, whichever namespace
-/// they are of, without a charge. `last` is the number of the last entry.
+/// The entries of a round that have a greater number than `after`, in order, at most `most`, whichever namespace they
+/// are of, without a charge. `last` is the number of the last entry.
 ///
 /// The cost grows with the entries, and the memory with what is answered.
 pub fn entries_after(

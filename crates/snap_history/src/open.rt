@@ -89,8 +89,8 @@ fn those_of(
 }
 
 impl OpenShares {
-    /// Those of the open ones among the records, in a store with so many slots. Takes memory for a place for each.
-    /// The cost grows with the number of slots and the logarithm of the number of records.
+    /// Those of the open ones among the records, in a store with `slots` slots. Takes memory for a place for each. The
+    /// cost grows with the number of slots and the logarithm of the number of records.
     pub fn of(alloc: Global, slots: u64, records: &Records) -> Result<OpenShares, AllocError>
         ensures { IfOk result (λ shares. shares ≡ open_shares slots records.now) }
     {

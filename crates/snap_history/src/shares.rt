@@ -27,8 +27,7 @@ impl Model for Shares {
 }
 
 impl Shares {
-    /// Those of a namespace without open snapshots, in a store with so many slots. Takes memory for a place
-    /// for each.
+    /// Those of a namespace without open snapshots, in a store with `slots` slots. Takes memory for a place for each.
     pub fn none(alloc: Global, slots: u64) -> Result<Shares, AllocError>
         ensures { IfOk result (λ shares. shares ≡ no_shares slots) }
     {

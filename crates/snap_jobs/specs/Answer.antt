@@ -63,7 +63,7 @@ answer_of ends book names = Jobs (count_by is_job_committed ends) (count_by is_d
 abbrev pub ends_text : JobOptions → List Job → List Ended → List ℕ
 ends_text options jobs ends = if options.ends then end_lines (end_told options.fields jobs) 1 ends else []
 
--- the text is that of some report of the jobs, by so many workers on a store of this round, of whom none was stopped: the jobs' ends, where they are told, the answers to the questions, of the closed store, and last the line of the answer. So many jobs lacked memory
+-- the text is that of some report of the jobs, by `workers` workers on a store of this round, none of whom was stopped: the jobs' ends, where they are told, the answers to the questions, of the closed store, and the answer's line last. `lacking` jobs lacked memory
 pub record IsTextOf (options : JobOptions) (read : ReadValue) (lacking : ℕ) (text : List ℕ) : Type 0 where
   pub ends : List Ended
   pub closed : BookValue
@@ -71,7 +71,7 @@ pub record IsTextOf (options : JobOptions) (read : ReadValue) (lacking : ℕ) (t
   pub count : lacking ≡ count_by wants_memory ends
   pub lines : text ≡ ends_text options read.jobs ends ++ (answers_text options.fields closed.state read.questions ++ answer_line (answer_of ends closed read.names))
 
--- what is written, by what was read: nothing where no line has opened a store, and else the text of a report of the jobs, of which so many lacked memory
+-- what is written, by what was read: nothing where no line has opened a store, else the text of a report of the jobs, of which `lacking` lacked memory
 abbrev pub IsText : JobOptions → Option ReadValue → ℕ → List ℕ → Type 0
 IsText options None lacking text = (lacking ≡ 0) × (text ≡ [])
 IsText options (Some read) lacking text = IsTextOf options read lacking text
@@ -89,7 +89,7 @@ abbrev pub job_count : Option ReadValue → ℕ
 job_count None = 0
 job_count (Some read) = length read.jobs
 
--- the text is written, and so many of all jobs lacked memory, at least one
+-- the text is written, and `lacking` of `all` jobs lacked memory, at least one
 abbrev pub HasLacked : JobOptions → Option ReadValue → ℕ → ℕ → Option (List ℕ) → Option (List ℕ) → Type 0
 HasLacked options read lacking all before after = (0 < lacking) × (all ≡ job_count read) × HasWritten options read lacking before after
 
@@ -100,7 +100,7 @@ unclosed_stop (causes.StillOut snapshots) = NotClosed
 unclosed_stop causes.SessionsMissing = NotClosed
 unclosed_stop (causes.TapeMismatch mismatch) = NotClosed
 
--- so many workers, of whom none was stopped, have run the jobs on a store of this round and given their sessions and some ends back, and the store can't be closed for a cause that ends the run so
+-- `workers` workers, none of whom was stopped, have run the jobs on a store of this round and given back their sessions and some ends, and the store can't be closed for a cause with this stop
 abbrev pub IsUnclosed : ℕ → Round → List Job → JobsStop → Type 0
 IsUnclosed workers r jobs stop = (sessions : List SessionValue) × (ends : List Ended) × (cause : Cause) × AreBack (λ worker. ⊥) r.opening.layer_inodes jobs workers sessions ends × HasCause r sessions cause × (stop ≡ unclosed_stop cause)
 

@@ -28,7 +28,7 @@ pub record ReadValue : Type 0 where
   pub jobs : List Job
   pub questions : List Asked
 
--- a script has at most so many jobs, and as many questions
+-- the most jobs of a script, and the most questions
 abbrev pub max_jobs : ℕ
 max_jobs = 65536
 

@@ -214,13 +214,13 @@ fn run<N: RoundName + Send + Sync, T: Threads + Wait + Sync, R: Input, W: Write>
 ///
 /// Where it ends well, and the input and the output tell their bytes, no line has a fault, no job lacked memory,
 /// and what was written is the text of a report of the jobs that were read, with the names of their store. Where it
-/// ends at a line, that is the first with a fault. Where it ends for want of jobs' memory, the text was written.
-/// Else nothing was written, but for a first part of the text where a write failed.
+/// ends at a line, that is the first with a fault. Where it ends since jobs lacked memory, the text was written. Else
+/// nothing was written, but for a first part of the text where a write failed.
 ///
 /// `Lines` with the stop of [`read_lines`], and with `OutOfMemory` where memory was refused before a worker was
 /// started, at the close, or for the text, and with `OutputFailed` where the text was not written. `NotClosed`
-/// where the store was not closed, which no script leads to. `WantOfMemory` where the text was written, and jobs
-/// were refused since memory was, or a thread.
+/// where the store was not closed, which no script leads to. `WantOfMemory` where the text was written, and jobs were
+/// refused because memory was, or a thread.
 ///
 /// The store's name is made here, so a call has a store of its own. It waits for the workers. Takes memory
 /// for a read, for one line, for all jobs, for the store, and for the text. The cost is that of the lines and of

@@ -13,7 +13,7 @@ pub enum JobsStop {
     Lines(Stop),
     /// The jobs were run, and the store could not be closed.
     NotClosed,
-    /// The jobs were run and answered, and so many of all were refused since memory was, or a thread.
+    /// The jobs were run and answered, and `jobs` of `all` were refused because memory was, or a thread.
     WantOfMemory { jobs: u64, all: u64 },
 }
 

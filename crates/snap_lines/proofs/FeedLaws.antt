@@ -29,7 +29,7 @@ open_both (b ∷ p) q h k =
     let o = open_cons b p h in
     ap (λ t. not t && is_open (p ++ q)) o.head ∙ open_both p q o.tail k
 
--- so many bytes and these are no more than are kept
+-- p bytes and n more are no more than are kept
 pub kept_more : (left : Option ℕ) (p n : ℕ) → p ≤ kept_length left → n ≤ max_line - p → p + n ≤ kept_length left
 kept_more None p n h k = omega arith
 kept_more (Some left) p n h k = omega arith

@@ -39,7 +39,7 @@ prepended_twice a b s = ap (λ t. record { text = t; fault = s.fault; value = s.
 feeds_append : (a b : List ℕ) → feeds (a ++ b) ≡ feeds a + feeds b
 feeds_append a b = sum_by-append _ a b
 
--- ---- so many lines more
+-- ---- more lines
 
 no_more : (n : Option ℕ) → and_more 0 n ≡ n
 no_more None = refl

@@ -20,7 +20,7 @@ pub record Behind : Type 0 where
 abbrev pub nothing : Option ℕ → Behind
 nothing most = record { lines = 0; left = most; pending = [] }
 
--- so many bytes are kept of a line at most: where the input has no limit, one more than a line has, by which a longer one is known
+-- the most bytes that are kept of a line: where the input has no limit, one more than a line has, by which a longer one is known
 abbrev pub kept_length : Option ℕ → ℕ
 kept_length None = cut_length
 kept_length (Some left) = max_line
@@ -34,17 +34,17 @@ pub record Run (A : Type 0) : Type 0 where
 abbrev pub within : {A : Type 0} → Behind → A → Run A
 within b value = record { place = record { lines = b.lines; left = b.left; value = value }; pending = b.pending }
 
--- the lines, or the first so many
+-- the lines, or the first n
 abbrev pub some_of : {A : Type 0} → Option ℕ → List A → List A
 some_of None lines = lines
 some_of (Some n) lines = take n lines
 
--- so many lines and then these
+-- k lines and then these
 abbrev pub and_more : ℕ → Option ℕ → Option ℕ
 and_more k None = None
 and_more k (Some n) = Some (k + n)
 
--- the transcript of what has come of a line and of the rest of the input: of all their lines, or of the first so many
+-- the transcript of what has come of a line and of the rest of the input: of all their lines, or of the first n
 unfoldable pub transcript_on : {A : Type 0} → Effects A → Run A → Option ℕ → List ℕ → Transcript A
 transcript_on effect r n rest = transcript_from effect r.place (some_of n (lines_of (r.pending ++ rest)))
 
@@ -93,7 +93,7 @@ abbrev pub TakesLine : {A : Type 0} → Effects A → Run A → List ℕ → Run
 TakesLine effect r line q before behind = (text : List ℕ) × (effect_at effect r.place line ≡ Ok (record { value = q.place.value; text = text }))
     × (q ≡ record { place = place_after r.place line q.place.value; pending = [] }) × Appends before behind text
 
--- the line after so many has this fault, or memory was refused
+-- the line after the first `lines` has this fault, or memory was refused
 abbrev pub Refuses : {A : Type 0} → Result (Effect A) Fault → ℕ → Stop → Type 0
 Refuses reading lines (Line f) = (reading ≡ Err f.cause) × (f.line ≡ next_line lines)
 Refuses reading lines (OutOfMemory want) = Unit {0}

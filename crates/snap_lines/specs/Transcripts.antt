@@ -10,7 +10,7 @@ use Rattle.snap_lines.specs.declared.stop.LineFault.{LineFault}
 use Rattle.snap_lines.specs.declared.stop.Stop.{Stop}
 use Rattle.snap_lines.specs.declared.stop.Stop.TheVariants.{Line, InputFailed, OutputFailed, OutOfMemory}
 
--- a longer line that is handed on is cut after so many bytes
+-- how many bytes of a longer line are handed on
 abbrev pub cut_length : ℕ
 cut_length = max_line + 1
 
@@ -24,16 +24,16 @@ pub record Place (A : Type 0) : Type 0 where
   pub left : Option ℕ
   pub value : A
 
--- the number of the line after so many; the numbers end at 2^64 - 1
+-- the number of the line after the first `lines`; the numbers end at 2^64 - 1
 abbrev pub next_line : ℕ → ℕ
 next_line lines = min (lines + 1) (2 ^ 64 - 1)
 
--- so many bytes pass what is left
+-- this many bytes are more than is left
 abbrev pub passes : Option ℕ → ℕ → Bool
 passes None bytes = false
 passes (Some left) bytes = nat_lt left bytes
 
--- what is left after so many bytes
+-- what is left after this many bytes
 abbrev pub left_after : Option ℕ → ℕ → Option ℕ
 left_after None bytes = None
 left_after (Some left) bytes = Some (left - bytes)
@@ -75,7 +75,7 @@ abbrev pub transcript_from : {A : Type 0} → Effects A → Place A → List (Li
 transcript_from effect p [] = record { text = []; fault = None; value = p.value }
 transcript_from effect p (line ∷ lines) = goes_on p line (effect_at effect p line) (λ q. transcript_from effect q lines)
 
--- before the first line, where all lines have at most so many bytes, or no limit
+-- before the first line, where all lines have at most `most` bytes, or no limit
 abbrev pub start : {A : Type 0} → Option ℕ → A → Place A
 start most value = record { lines = 0; left = most; value = value }
 

@@ -8,10 +8,10 @@ use crate::take::TakeLine;
 use std::alloc::{AllocError, Global};
 use std::io::{Read, Write};
 
-/// All lines of a script have at most so many bytes, with their line feeds.
+/// The most bytes that all lines of a script have, with their line feeds.
 pub const MAX_BYTES: usize = 1_073_741_824;
 
-// A read takes at most so many bytes.
+// The most bytes that a read takes.
 const CHUNK: usize = 65_536;
 
 // Room for a read.
@@ -89,8 +89,8 @@ fn read_all<T: TakeLine, R: Read, W: Write>(
 /// failed, a first part of a text may follow. Nothing is said of the taker after an error.
 ///
 /// `Line` where the taker finds a fault, or a line is too long. `InputFailed` where a read failed, or the end of
-/// the input didn't come within so many reads; `OutputFailed` where a write failed; `OutOfMemory` where
-/// memory was refused. What was written stays written, and is flushed before each read and at the end.
+/// the input didn't come within `reads` reads; `OutputFailed` where a write failed; `OutOfMemory` where memory was
+/// refused. What was written stays written, and is flushed before each read and at the end.
 ///
 /// Takes memory for a read and for one line, beside what the taker takes. The cost is that of the taker's
 /// calls, and grows with the bytes.

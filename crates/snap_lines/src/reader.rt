@@ -15,10 +15,10 @@ use std::alloc::Global;
 use std::io::{ErrorKind, Write};
 use std::marker::Model;
 
-// A text is written by at most so many writes.
+// The most writes that a text is written by.
 const WRITES: u64 = u64::MAX;
 
-// The fault of the line after so many.
+// The fault of the line after the first `lines`.
 fn fault(lines: u64, cause: Fault) -> Stop
     ensures { result ≡ Stop.Line (record { line = next_line lines; cause = cause }) }
 {
@@ -26,7 +26,7 @@ fn fault(lines: u64, cause: Fault) -> Stop
     Stop::Line(LineFault { line, cause })
 }
 
-// Whether so many bytes pass what is left.
+// Whether `len` bytes are more than is left.
 fn passes(left: Option<usize>, len: usize) -> bool
     ensures { result ≡ passes left len }
 {
@@ -36,7 +36,7 @@ fn passes(left: Option<usize>, len: usize) -> bool
     }
 }
 
-// What is left after so many bytes.
+// What is left after `len` bytes.
 fn left_after(left: Option<usize>, len: usize) -> Option<usize>
     ensures { result ≡ left_after left len }
 {
@@ -120,7 +120,7 @@ impl Model for Reader {
 }
 
 impl Reader {
-    // Before the first line, where all lines have at most so many bytes, or no limit.
+    // Before the first line, where all lines have at most `most` bytes, or no limit.
     pub(crate) fn new(alloc: Global, most: Option<usize>) -> Reader
         ensures { result ≡ nothing most }
     {
@@ -159,7 +159,7 @@ impl Reader {
         Ok(())
     }
 
-    // Takes one byte more.
+    // Takes one more byte.
     fn take_byte<T: TakeLine, W: Write>(
         &mut self,
         b: u8,

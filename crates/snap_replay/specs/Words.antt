@@ -33,7 +33,7 @@ IsNumberOf None number = number ≡ None
 IsNumberOf (Some text) (Some n) = IsNumeral 10 (without_leading_plus text) × (n ≡ digits_value 10 (without_leading_plus text)) × (n < 2 ^ 32)
 IsNumberOf (Some text) None = IsNumeral 10 (without_leading_plus text) → digits_value 10 (without_leading_plus text) < 2 ^ 32 → ⊥
 
--- jobs by so many workers, where there are 1 to 16
+-- jobs by `workers` workers, where there are 1 to 16
 abbrev pub writers_of : Option ℕ → List Row → Option Task
 writers_of None rows = None
 writers_of (Some workers) rows = if nat_le 1 workers && nat_le workers 16 then Some (Writers (job_options_of workers rows)) else None
@@ -45,7 +45,7 @@ IsServer rows (Some (Run options)) = ⊥
 IsServer rows (Some (Serve name rebases)) = (option_map (λ n. n.now) name ≡ first_of (codes "log") rows) × (rebases ≡ is_given (codes "rebase") rows)
 IsServer rows (Some (Writers options)) = ⊥
 
--- by whether the command is `run`, `serve` or `writers`, and what was found of its options: a run, a server, jobs by so many workers, or nothing
+-- by whether the command is `run`, `serve` or `writers`, and what was found of its options: a run, a server, jobs by some workers, or nothing
 abbrev pub IsAskedAs : Bool → Bool → Bool → List Row → Option Task → Type 0
 IsAskedAs true is_serve is_writers rows task = task ≡ Some (Run (run_options_of rows))
 IsAskedAs false true is_writers rows task = IsServer rows task

@@ -78,7 +78,7 @@ about s refused.StillOut = None
 abbrev pub key_subjects : Subjects
 key_subjects = record { malformed = fields.Key; missing = fields.Key; taken = fields.Key; amount = None; source = fields.Path; invalid = fields.Path; big = fields.Path; path = fields.Path }
 
--- of a new snapshot on a parent: malformed is the first of the key, the parent and the labels that has not its form
+-- of a new snapshot on a parent: the first of the key, the parent and the labels that is malformed
 abbrev pub new_subjects : Bytes → Bytes → Subjects
 new_subjects key parent = record key_subjects { malformed = if not (is_key key) then fields.Key else if not (is_parent parent) then fields.Parent else fields.Labels; missing = fields.Parent }
 

@@ -114,7 +114,7 @@ labels_with found (member key d ms) = option_and_then (λ value. labels_with (wi
 abbrev pub as_labels : Data → Option (List Label)
 as_labels d = option_and_then (labels_with []) (as_object d)
 
--- the first member that is no label by its form, if there is one
+-- the first member that is no well-formed label, if there is one
 abbrev pub malformed_in : Members → Option Label
 malformed_in no_members = None
 malformed_in (member key d ms) = option_map_or (λ value. if is_label (key, value) then malformed_in ms else Some (key, value)) (as_str d) (malformed_in ms)

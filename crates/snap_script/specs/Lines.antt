@@ -68,7 +68,7 @@ told_by_rule rule (Err fault) = Err (fault_told rule fault)
 unfoldable pub command_line : FieldRule → Bool → List ℕ → Result Line Fault
 command_line rule opened bytes = do told_by_rule rule (command_in rule opened (← object_in bytes))
 
--- the session of a line that opens a store where none is named is a number, but where any field may stand
+-- the session of a line that opens a store where none is named is a number, except where any field may stand
 unfoldable pub session_known : FieldRule → Data → Result Unit Fault
 session_known rules.Any line = Ok tt
 session_known rules.Known line = do session ← optional as_natural fields.Session (Ok 0) line; Ok tt

@@ -13,7 +13,7 @@ use snap_upper::Op;
 /// What the refusals of a command, or of an operation, are about: the field that is the cause of each.
 #[derive(Clone, Copy)]
 pub struct Subjects {
-    /// Of `BadArgument`: the first field that has not its form.
+    /// Of `BadArgument`: the first malformed field.
     pub malformed: Field,
     /// Of `NotFound` and `NotCommitted`.
     pub missing: Field,

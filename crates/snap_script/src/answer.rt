@@ -252,7 +252,7 @@ pub enum Answer {
         refused: u64,
         totals: Sequence<(Text, Usage)>,
     },
-    /// A store was refused for the form of a field of its `open`, the first such in the order of [`ConfigField`]:
+    /// A store was refused for a malformed field of its `open`, the first such in the order of [`ConfigField`]:
     /// `{"error":"BadArgument","field":"slots","from":"book"}`.
     BadConfig(ConfigField),
     /// A file operation failed: `{"error":"Exists","from":"file"}`.

@@ -18,7 +18,7 @@ pub enum Command {
     },
     /// Opens a session.
     Session,
-    /// Begins the next round, and opens its session 0. The journal has at most so many entries.
+    /// Begins the next round, and opens its session 0. The journal has at most `journal` entries.
     Reopen {
         journal: u64,
     },
@@ -59,8 +59,8 @@ pub enum Command {
         key: Text,
     },
     /// Changes a file or a directory of an active snapshot. Where its charge doesn't cover what is
-    /// needed, so much is charged and, if the limit covers it, the extra amount too. In place of the operation stands
-    /// the first field of a path whose text is no path.
+    /// needed, that is charged and, if the limit covers it, the extra amount too. In place of the operation stands the
+    /// first field of a path whose text is no path.
     File {
         namespace: Text,
         key: Text,
@@ -109,14 +109,14 @@ pub enum Command {
         namespace: Text,
     },
     /// Asks for what the snapshot's layer changes of what its ancestors show: of the changes after a path, or of all
-    /// where its text is empty, at most so many.
+    /// where its text is empty, at most `most`.
     Diff {
         namespace: Text,
         key: Text,
         after: Text,
         most: u64,
     },
-    /// Asks for the round's entries, all or those of a namespace, after the entry of a number, at most so many, and in
+    /// Asks for the round's entries, all or those of a namespace, after the entry of a number, at most `most`, and in
     /// full also for the lines that make their calls.
     Journal {
         namespace: Option<Text>,
@@ -137,7 +137,7 @@ pub enum Lookup {
     List,
     /// The first bytes of the regular file.
     Read,
-    /// The bytes of the regular file from an offset on, at most so many.
+    /// The bytes of the regular file from an offset on, at most `most`.
     Part { offset: u64, most: u64 },
     /// The path that it leads to, once the symlinks in it are followed.
     Resolve,

@@ -283,7 +283,7 @@ pub fn usage_or(default: Usage, field: Field, line: &Value<'_>) -> Result<Usage,
     }
 }
 
-/// Puts a label to those that there are, where these are at most as many as a snapshot may have: one more is kept,
+/// Adds a label to those that there are, where these are at most as many as a snapshot may have: one more is kept,
 /// since it is refused.
 fn insert_within(
     alloc: Global,
@@ -318,7 +318,7 @@ fn labels_in(
     Ok(Some(labels))
 }
 
-/// The first member that is no label by its form.
+/// The first member that is no well-formed label.
 fn malformed_in<'v, 'a>(members: &BTreeMap<&'a str, &'v Value<'a>>) -> Option<(&'a str, &'a str)>
     ensures { option_map (λ label. (label.0.now, label.1.now)) result ≡ malformed_in (members_of members.now.entries) }
 {
@@ -332,7 +332,7 @@ fn malformed_in<'v, 'a>(members: &BTreeMap<&'a str, &'v Value<'a>>) -> Option<(&
     None
 }
 
-/// Puts the member of this key to the labels, if there is one.
+/// Adds the member of this key to the labels, if there is one.
 fn insert_member(
     alloc: Global,
     members: &BTreeMap<&str, &Value<'_>>,
@@ -367,7 +367,7 @@ fn named_in(
     Ok(labels)
 }
 
-/// What decides an update by paths that gives so many labels.
+/// What decides an update by paths that gives more than `MAX_LABELS` labels.
 fn deciding_in<'v, 'a>(
     alloc: Global,
     members: &BTreeMap<&'a str, &'v Value<'a>>,

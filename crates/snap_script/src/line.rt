@@ -15,7 +15,7 @@ use snap_json::{Scratch, Unreadable, Value};
 use snap_record::Text;
 use std::alloc::{AllocError, Global};
 
-/// A line has at most so many bytes, without its line feed.
+/// The most bytes of a line, without its line feed.
 pub const MAX_LINE_BYTES: usize = 16_777_216;
 
 /// What a line of a script is.
@@ -129,7 +129,7 @@ fn session_known(rule: FieldRule, line: &Value<'_>) -> Result<(), Fault>
 /// `rule` says which fields it may have.
 ///
 /// `BadField` of `do`, then `FirstLineMustBeOpen`. Where not any field may stand, `UnknownField`, then `BadField` of `s`
-/// that is no number. Then the fields of `open` in their order. The configuration need not have its form.
+/// that is no number. Then the fields of `open` in their order. The configuration need not be well-formed.
 /// `OutOfMemory` where memory for it was refused. The memory and the cost grow with the line.
 #[tactic(auto, unfolding(crate::specs::Lines::opening_of))]
 pub fn read_open(alloc: Global, rule: FieldRule, line: &Value<'_>) -> Result<Config, ReadError>

@@ -222,7 +222,7 @@ fn operations_in(
 ///
 /// `BadField` of `ops` where the field is absent, or no array. Then, operation by operation, `Operation` with its
 /// number, counted from 1, and its fault: `NotAnObject`; `BadField` of `do` where that is no text; `NoSuchCommand`
-/// where it is no file command's word; `UnknownField`, but where any field may stand; and `BadField` with the first
+/// where it is no file command's word; `UnknownField`, except where any field may stand; and `BadField` with the first
 /// of its fields that is absent without a default, of a wrong kind, or a path's text that is no path. `OutOfMemory`
 /// where memory was refused. The memory and the cost grow with the line, and a `fill` takes as many bytes as it asks
 /// for.

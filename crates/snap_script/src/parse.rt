@@ -31,8 +31,8 @@ const FIRST_ID: u32 = 1;
 /// How many snapshots a walk gives at most, entries a journal, and changes a diff, where the line doesn't say.
 const PAGE: u64 = 64;
 
-/// The namespace (`ns`) and the key of the snapshot that a line names, both texts. Neither has to have its
-/// form. The cost grows with the texts.
+/// The namespace (`ns`) and the key of the snapshot that a line names, both texts. Neither has to be well-formed. The
+/// cost grows with the texts.
 #[tactic(auto, unfolding(crate::specs::Commands::named))]
 pub fn named(alloc: Global, line: &Value<'_>) -> Result<(Text, Text), ReadError>
     ensures { Gives (λ snapshot. snapshot) result (named (view line.now)) }
@@ -346,7 +346,7 @@ fn call_of(alloc: Global, kind: CallKind, line: &Value<'_>) -> Result<Command, R
     }
 }
 
-/// What a read asks for: the first bytes, or a part from the offset on, at most so many bytes.
+/// What a read asks for: the first bytes, or a part from the offset on, at most `most` bytes.
 fn read_asked(offset: Option<u64>, most: Option<u64>) -> Lookup
     ensures { result ≡ read_asked offset most }
 {

@@ -346,7 +346,7 @@ fn job_fields() -> &'static [Field]
 
 /// That the line of a job has no field but those that it may have.
 ///
-/// `UnknownField` with the first other one in byte order, but where any field may stand; `OutOfMemory` where memory
+/// `UnknownField` with the first other one in byte order, except where any field may stand; `OutOfMemory` where memory
 /// for its name was refused. The cost grows with the line's members, and memory is taken only where there is another
 /// field.
 #[tactic(auto, unfolding(crate::specs::Known::known_job))]

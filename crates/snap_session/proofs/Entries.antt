@@ -30,7 +30,7 @@ use Rattle.snap_session.specs.Journal.{journal_entry, journal_in}
 pub few : (w : WorldValue) → Replays w.opening w.journal w.state → length w.journal ≤ w.state.entries
 few w replays = let count = Replays-entries w.opening w.journal w.state replays in omega arith
 
--- the place of a namespace that is charged so much
+-- the place of a namespace that is charged u
 charged_place : (rs : List Record) (o : Option ℕ) (u : Usage) → option_map (λ place. charge_of place rs) o ≡ Some u → (place : ℕ) × (o ≡ Some place) × (charge_of place rs ≡ u)
 charged_place rs None u e = absurd (none_some u e)
 charged_place rs (Some place) u e = (place, refl, some_same (charge_of place rs) u e)

@@ -134,7 +134,7 @@ performed session namespace key slot id (Err field) extra w = (w, answers.Failed
 abbrev pub operated : ℕ → ℕ → ℕ → Op → WorldValue → WorldValue × Answer
 operated session slot id op w = tried session slot id (Hand slot op) no_usage (move w (Hand slot op))
 
--- how far a batch came, after so many of its operations
+-- how far a batch came, after `done` of its operations
 abbrev pub batch_answer : ℕ → ℕ → Option RefusedOperation → WorldValue → Answer
 batch_answer slot done stopped w = answers.Batch done (layer_count_at slot w.hands) (share_at slot w) stopped
 
@@ -142,12 +142,12 @@ batch_answer slot done stopped w = answers.Batch done (layer_count_at slot w.han
 abbrev pub refused_operation : Bytes → Bytes → Op → ℕ → WorldValue → Refused → RefusedOperation
 refused_operation namespace key op number w why = record { number = number; why = why; of = about_operation w namespace key op why }
 
--- after an operation: where it was refused the batch ends at it, and so many were done before
+-- after an operation: where it was refused the batch ends at it, and `done` were done before
 abbrev pub unless_stopped : Bytes → Bytes → Op → ℕ → ℕ → (WorldValue → WorldValue × Answer) → WorldValue × Answer → WorldValue × Answer
 unless_stopped namespace key op slot done next after = option_map_or (λ why. (after.0, batch_answer slot done (Some (refused_operation namespace key op (done + 1) after.0 why)) after.0))
     (refusal_in_answer after.1) (next after.0)
 
--- the operations on the snapshot of a key, in order, up to the first that is refused; so many were done before
+-- the operations on the snapshot of a key, in order, up to the first that is refused; `done` were done before
 abbrev pub all_operated : ℕ → Bytes → Bytes → ℕ → ℕ → ℕ → List Op → WorldValue → WorldValue × Answer
 all_operated session namespace key slot id done [] w = (w, batch_answer slot done None w)
 all_operated session namespace key slot id done (op ∷ ops) w = unless_stopped namespace key op slot done (all_operated session namespace key slot id (done + 1) ops) (operated session slot id op w)
@@ -192,7 +192,7 @@ abbrev pub read_of : (List ℕ → Answer) → Content → Answer
 read_of tell (contents.Bytes bytes) = tell bytes
 read_of tell (contents.Sized size digest) = answers.Known size digest
 
--- what the layers show at a path: of a file its first 16 bytes, or those from the offset on, at most so many (pread(2)), and how many it has
+-- what the layers show at a path: of a file its first 16 bytes, or those from the offset on, at most `most` (pread(2)), and how many it has
 abbrev pub looked_up : Lookup → List Tree → Names → Answer
 looked_up lookups.Look layers path = answers.Seen (option_map shown_of (seen layers path))
 looked_up lookups.List layers path = found_or_else answers.Names answers.Failed (listing layers path)

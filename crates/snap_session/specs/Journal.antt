@@ -73,7 +73,7 @@ line_at w carried info = option_and_then (λ e. entry_line (held_name carried w.
 abbrev pub journal_entry : WorldValue → List Carried → Bool → Bool → EntryInfo → JournalEntry
 journal_entry w carried all full info = record { entry = info; namespace = if all then namespace_at w carried info else None; line = if full then line_at w carried info else None }
 
--- those of the namespace of this name since it was last made, of a greater number, at most so many, or that there is no such namespace
+-- those of the namespace of this name since it was last made, of a greater number, at most `most`, or that there is no such namespace
 abbrev pub journal_in : WorldValue → List Carried → ℕ → ℕ → Bool → Bytes → Answer
 journal_in w carried after most full namespace = option_map_or (λ place. answers.Journal (map (journal_entry w carried false full) (history_page after most (history_since namespace w.opening w.journal)))) (place_of namespace w.state.namespaces) (refusal_answer NoNamespace)
 

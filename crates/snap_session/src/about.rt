@@ -29,7 +29,7 @@ fn beyond(limit: Usage) -> Field
     }
 }
 
-// Whether each label has its form.
+// Whether each label is well-formed.
 fn have_form(labels: &Labels) -> bool
     ensures { result ≡ list_all is_label labels.now }
 {

@@ -16,7 +16,7 @@ use snap_upper::Op;
 use snap_usage::Usage;
 use snap_world::{NoMemory, World};
 
-// How far the batch came, after so many of its operations.
+// How far the batch came, after `done` of its operations.
 fn came_to<N: StoreName>(
     world: &World<N>,
     slot: u64,

@@ -56,7 +56,7 @@ fn empty_page(alloc: Global, after: &str, most: u64) -> Result<Answer, NoMemory>
     }
 }
 
-// The page of a snapshot's changes after a path, at most so many.
+// The page of a snapshot's changes after a path, at most `most`.
 pub(crate) fn diff<N: StoreName>(
     alloc: Global,
     world: &World<N>,

@@ -222,7 +222,7 @@ fn journal_entries<N: StoreName>(
     Ok(told)
 }
 
-// Those of a namespace after the entry of a number, at most so many.
+// Those of a namespace after the entry of a number, at most `most`.
 fn journal_in<N: StoreName>(
     alloc: Global,
     world: &World<N>,
@@ -272,7 +272,7 @@ fn journal_all<N: StoreName>(
     Ok(Answer::Journal(told))
 }
 
-// Those after the entry of a number, at most so many, of all or of a namespace.
+// Those after the entry of a number, at most `most`, of all or of a namespace.
 pub(crate) fn journal<N: StoreName>(
     alloc: Global,
     world: &World<N>,

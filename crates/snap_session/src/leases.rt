@@ -10,7 +10,7 @@ use snap_script::Answer;
 use snap_world::{NoMemory, World};
 use std::alloc::{AllocError, Global};
 
-// The one lease, where there is such a one.
+// The one lease, if there is one.
 fn one_lease(alloc: Global, info: Option<LeaseInfo>) -> Result<Answer, AllocError>
     ensures { IfOk result (λ answer. answer ≡ one_lease info) }
 {

@@ -83,7 +83,7 @@ fn part_of(alloc: Global, content: &Content, offset: u64, most: u64) -> Result<A
     }
 }
 
-// The file's bytes from the offset on, at most so many, and how many it has.
+// The file's bytes from the offset on, at most `most`, and how many it has.
 #[tactic(auto, using(std::proofs::lemmas::List::drop_min, std::proofs::lemmas::List::take_min))]
 fn part_in(alloc: Global, bytes: &[u8], offset: u64, most: u64) -> Result<Answer, AllocError>
     ensures { IfOk result (λ answer. answer ≡ answers.Part (take most (drop offset bytes.now)) (length bytes.now)) }

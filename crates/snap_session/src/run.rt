@@ -110,8 +110,8 @@ fn run<N: StoreName, R: Read, W: Write>(
 /// `Line` where a line is no command, has more than 16,777,216 bytes without its line feed, or takes
 /// the bytes of all lines past 1,073,741,824; also where it has an unknown field, if the options make that a fault,
 /// and where its command was refused, if they end the run there. `InputFailed` where a read failed, or the end of the
-/// input didn't come within so many reads; `OutputFailed` where a write failed; `OutOfMemory` where
-/// memory was refused. What was written stays written, and is flushed before each read and at the end.
+/// input didn't come within `reads` reads; `OutputFailed` where a write failed; `OutOfMemory` where memory was refused.
+/// What was written stays written, and is flushed before each read and at the end.
 ///
 /// The store's name is made here, so a call has a store of its own. Takes memory for a read, for one
 /// line and its answer, and for the store. The cost is that of the commands, and grows with the bytes.

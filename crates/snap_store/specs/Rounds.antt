@@ -8,6 +8,6 @@ use Rattle.snap_round.specs.declared.rule.Round.{Round}
 abbrev pub round_of : BookValue → Round
 round_of b = record { opening = b.opening; limit = b.limit }
 
--- a round whose layers may have so many inodes, 1 to 2^24
+-- a round whose layers may have `inodes` inodes, 1 to 2^24
 abbrev pub HasLayers : Round → ℕ → Type 0
 HasLayers r inodes = (inodes ≡ r.opening.layer_inodes) × (is_layer_limit inodes ≡ true)

@@ -16,7 +16,7 @@ use Rattle.snap_book.specs.Active.{ActiveValue, fresh}
 use Rattle.snap_book.specs.Viewed.{ViewedValue}
 use Rattle.snap_tape.specs.Tapes.{SessionValue, Taped}
 
--- a new active snapshot, by the state that its call met: its namespace has the place that its text has there; it has the key; below it are the layers of the parent and the parent's ancestors, nearest first, one for each id of the reply's chain, and none without a parent; its own layer is a root alone with the meta of the nearest one's root, which may have so many inodes; its share is 1/1
+-- a new active snapshot, by the state that its call met: its namespace has the place that its text has there; it has the key; below it are the layers of the parent and the parent's ancestors, nearest first, one for each id of the reply's chain, and none without a parent; its own layer, of at most `inodes` inodes, is a root alone with the meta of the nearest one's root; its share is 1/1
 pub record IsPrepared (inodes : ℕ) (old new : SessionValue) (namespace asked parent : Bytes) (labels : List Label) (a : ActiveValue) : Type 0 where
   pub met : State
   pub place : place_of namespace met.namespaces ≡ Some a.namespace
@@ -37,7 +37,7 @@ pub record IsViewed (old new : SessionValue) (namespace key parent : Bytes) (lab
   pub lowers : v.lowers ≡ shown_layers at parent met.records
   pub each : (length v.lowers ≡ length (ids_of (ancestors at parent met.records))) ⊎ (v.lowers ≡ root_only (record { mode = 493 }) 1 ∷ [])
 
--- a share that held so much, after a charge: the wanted amount, or else the needed one, and never less than before
+-- a share that held `held`, after a charge: the wanted amount, or else the needed one, and never less than before
 abbrev pub IsChargedTo : Usage → Usage → Usage → Usage → Type 0
 IsChargedTo held need want now = (now ≡ greater held need) ⊎ (now ≡ greater (greater held need) want)
 

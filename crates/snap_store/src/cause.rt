@@ -34,7 +34,7 @@ pub enum Cause {
     /// of the journal has another.
     #[error("sessions are missing")]
     SessionsMissing,
-    /// A tape has not just its session's entries of the journal.
+    /// A tape doesn't have exactly its session's entries of the journal.
     #[error("the tape of session {} differs at place {}", .0.session, .0.place)]
     TapeMismatch(Mismatch),
     /// Memory was refused for the list of what is open.

@@ -99,8 +99,8 @@ impl<N: RoundName> Store<N> {
         }
     }
 
-    /// Opens the next round over the same snapshots, leases, limits and ids: its journal is empty and has at
-    /// most so many entries, and sessions are counted from 0 again.
+    /// Opens the next round over the same snapshots, leases, limits and ids: its journal is empty and has at most
+    /// `journal` entries, and sessions are counted from 0 again.
     ///
     /// `BadArgument` where the journal would be above 1,048,576 entries, then `NumbersSpent` where the numbers
     /// of its entries could pass 2^62; the closed store comes back as it was. Takes no memory. The cost is

@@ -7,7 +7,7 @@ use snap_book::{Book, Refusal, Reply, SharedEntry};
 use snap_ledger::StoreName;
 use snap_tape::{Session, TapeCount};
 
-// A refused call left an entry, but where the journal is full or memory is refused.
+// A refused call left an entry, except where the journal is full or memory is refused.
 pub(crate) fn is_recorded(why: Refusal) -> bool
     ensures { result ≡ is_recorded why }
 {

@@ -171,9 +171,9 @@ impl<N: RoundName> Store<N> {
     /// Changes a snapshot's labels by field paths, or all of them where no path is given (containerd's
     /// `Snapshotter.Update`). The answer is its info afterwards.
     ///
-    /// Refusals, after `JournalFull` and `OutOfMemory`: `BadArgument` for a key, labels or paths that have not
-    /// their form, or for more than 64 labels that would replace all; `NoNamespace`; `NotFound`;
-    /// `BadArgument` where more than 64 labels would be left.
+    /// Refusals, after `JournalFull` and `OutOfMemory`: `BadArgument` for a malformed key, labels or paths, or for more
+    /// than 64 labels that would replace all; `NoNamespace`; `NotFound`; `BadArgument` where more than 64 labels would
+    /// be left.
     pub fn update<R: Wait>(
         &self,
         rt: &R,
@@ -232,7 +232,7 @@ impl<N: RoundName> Store<N> {
     }
 
     /// The infos of the snapshots of a namespace whose keys come after a text and that have every part of a
-    /// filter, at most so many, in the order of their keys (containerd's `Snapshotter.Walk`, page by page).
+    /// filter, at most `most`, in the order of their keys (containerd's `Snapshotter.Walk`, page by page).
     ///
     /// Refusals, after `JournalFull` and `OutOfMemory`: `BadArgument` for a page of none or of more than 64
     /// infos, or a start of more than 1024 bytes; `NoNamespace`.

@@ -76,7 +76,7 @@ longer tape seen place more h =
     past (x ∷ xs) zero e = absurd (cc)
     past (x ∷ xs) (suc i) e = omega (arith, past xs i e)
 
--- it has not
+-- it has none left
 pub equal : (tape seen : List Entry) (place : ℕ) → length tape ≤ place → HasFollowed tape seen place false → tape ≡ seen
 equal tape seen place end h = sym (take_all place tape end) ∙ h.0
 

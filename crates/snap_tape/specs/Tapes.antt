@@ -9,7 +9,7 @@ use Rattle.snap_call.specs.declared.reply.Reply.{Reply}
 use Rattle.snap_call.specs.declared.reply.Reply.TheVariants.{Refused}
 use Rattle.snap_call.specs.Journal.{call_entry}
 
--- a session: its number, its tape, which has each entry that its calls left in the journal, in order, and for how many entries more it has memory
+-- a session: its number, its tape, which has each entry that its calls left in the journal, in order, and for how many more entries it has memory
 pub record SessionValue : Type 0 where
   pub number : ℕ
   pub tape : List Entry
@@ -27,7 +27,7 @@ pub record Untaped (old new : SessionValue) : Type 0 where
   pub tape : new.tape ≡ old.tape
   pub spare : old.spare ≤ new.spare
 
--- a refused call leaves its entry, but where the journal is full or memory is refused
+-- a refused call leaves its entry, except where the journal is full or memory is refused
 abbrev pub RefusedOn : SessionValue → SessionValue → Call → Given → Refusal → Type 0
 RefusedOn old new call given JournalFull = Untaped old new
 RefusedOn old new call given (OutOfMemory want) = Untaped old new
@@ -43,7 +43,7 @@ abbrev pub session_with_entry : SessionValue → Option Entry → SessionValue
 session_with_entry s None = s
 session_with_entry s (Some e) = record { number = s.number; tape = s.tape ++ e ∷ []; spare = s.spare - 1 }
 
--- so many entries, and this one, where there is one
+-- n entries, and this one, where there is one
 abbrev pub count_with : ℕ → Option Entry → ℕ
 count_with n None = n
 count_with n (Some e) = n + 1

@@ -16,7 +16,7 @@ pub enum SessionsFault {
     /// They are not all those of the round: their numbers are not 0 to n - 1, each once, or an entry of the
     /// journal has another.
     Missing,
-    /// A tape has not just its session's entries of the journal.
+    /// A tape doesn't have exactly its session's entries of the journal.
     Mismatch(Mismatch),
 }
 

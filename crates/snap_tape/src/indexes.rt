@@ -8,7 +8,7 @@ use crate::session::Session;
 use snap_call::SharedEntry;
 use std::alloc::{AllocError, Global};
 
-// Every entry is of one of so many sessions.
+// Every entry is of one of the first `sessions` sessions.
 pub(crate) fn are_known(journal: &[SharedEntry], sessions: usize) -> bool
     ensures { IsTrue result ↔ AllByRecursion (λ e. e.session < sessions) journal.now }
 {
@@ -27,7 +27,7 @@ fn count_with(sessions: &[Session], number: u64) -> usize
         .count()
 }
 
-// The numbers are below so many.
+// The numbers are below the number of sessions.
 fn are_inside(sessions: &[Session]) -> bool
     ensures { IsTrue result ↔ AllByRecursion (λ s. s.number < length sessions.now) sessions.now }
 {
@@ -36,7 +36,7 @@ fn are_inside(sessions: &[Session]) -> bool
         .all(|session| session.number() < sessions.len() as u64)
 }
 
-// Each number below so many stands once.
+// Each number below the number of sessions stands once.
 fn is_each_once(sessions: &[Session]) -> bool
     ensures { IsTrue result ↔ ((n : ℕ) → n < length sessions.now → count_by (has_session_number n) sessions.now ≡ 1) }
 {

@@ -37,7 +37,7 @@ impl Progress {
         }
     }
 
-    // The session has one entry more.
+    // The session has one more entry.
     fn next(self, tape: &[SharedEntry], entry: &SharedEntry) -> Progress
         ensures { (seen : List EntryValue) → IsProgress tape.now seen self → IsProgress tape.now (seen ++ entry.now ∷ []) result }
     {
@@ -136,7 +136,7 @@ pub fn first_mismatch(journal: &[SharedEntry], sessions: &[Session]) -> Option<M
     first
 }
 
-// One entry more of the journal: its session's tape is compared one place further.
+// One more entry of the journal: its session's tape is compared one place further.
 fn follow_entry(
     sessions: &[Session],
     indexes: &[Option<usize>],

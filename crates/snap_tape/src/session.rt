@@ -52,15 +52,15 @@ impl Session {
         self.tape.as_slice()
     }
 
-    /// For how many entries more its tape has memory. Takes no memory. The cost is constant.
+    /// For how many more entries its tape has memory. Takes no memory. The cost is constant.
     pub fn spare(&self) -> usize
         ensures { result ≡ self.now.spare }
     {
         self.tape.capacity() - self.tape.len()
     }
 
-    /// Makes room on the tape for so many entries more, as a discard needs for one. Where memory is
-    /// refused the tape is as it was. The cost is that of moving the tape, if it has to grow.
+    /// Makes room on the tape for `entries` more entries, as a discard needs for one. Where memory
+    /// is refused the tape is as it was. The cost is that of moving the tape, if it has to grow.
     pub fn reserve(&mut self, entries: usize) -> Result<(), AllocError>
         ensures same { Untaped self.old self.new }
         ensures room { OnOk result (entries ≤ self.new.spare) }

@@ -155,7 +155,7 @@ module _ (rs ts : List Record) (alike : AreAlike rs ts) where
   agree_alike : (hands : List (Option HandValue)) → AgreeAll hands rs → AgreeAll hands ts
   agree_alike hands agree k = alike_at k (hand_at k hands) (active_at k rs) refl (agree k)
 
--- the snapshot is charged so much
+-- the snapshot, charged `to`
 abbrev charged_so : ActiveValue → Usage → ActiveValue
 charged_so a to = record { namespace = a.namespace; key = a.key; lowers = a.lowers; layer = a.layer; share = record { slot = a.share.slot; id = a.share.id; usage = to } }
 

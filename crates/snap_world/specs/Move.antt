@@ -50,7 +50,7 @@ abbrev pub committed_hand : ActiveValue → Reply → Option HandValue
 committed_hand a (replies.Committed id usage) = None
 committed_hand a reply = Some (sealed_hand a)
 
--- the hand of a new snapshot in the namespace at a place: the layers of its committed ancestors, a layer of a root alone over them, which may have so many inodes, and a share of 1/1
+-- the hand of a new snapshot in the namespace at a place: the layers of its committed ancestors, a layer of a root alone over them, of at most `inodes` inodes, and a share of 1/1
 abbrev pub new_hand : ℕ → Bytes → Bytes → List Record → ℕ → ℕ → ℕ → HandValue
 new_hand inodes key parent rs id slot place =
     let lowers = layers_of (ancestors place parent rs) in
@@ -87,7 +87,7 @@ is_unsealed h = not h.sealed
 abbrev pub is_working : ℕ → HandValue → Bool
 is_working id h = is_under id h && is_unsealed h
 
--- beside an entry for each open snapshot's end the journal has no room for so many more
+-- beside an entry for each open snapshot's end the journal has no room for `more` more
 abbrev pub is_full : WorldValue → ℕ → Bool
 is_full w more = nat_lt w.limit (length w.journal + open_count w.state.records + more)
 

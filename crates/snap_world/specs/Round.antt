@@ -12,7 +12,7 @@ abbrev pub of_book : Result Unit Refusal → Result Unit ReopenFault
 of_book (Ok done) = Ok done
 of_book (Err why) = Err (Book why)
 
--- the answer where a round of at most so many entries is to follow: StillOut where a snapshot is open, else the book's
+-- the answer where a round of at most `journal` entries follows: StillOut where a snapshot is open, else the book's
 abbrev pub reopen_answer : WorldValue → ℕ → Result Unit ReopenFault
 reopen_answer w journal = if nat_lt 0 (open_count w.state.records) then Err StillOut else of_book (round_answer w.state journal)
 

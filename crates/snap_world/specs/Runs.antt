@@ -46,7 +46,7 @@ abbrev pub IsWant : WorldValue → Step → Answer → WorldValue → Type 0
 IsWant old (steps.Locked n call) answer new = (answer ≡ answers.Reply (Refused (OutOfMemory no_memory))) × (is_its_session old.state.sessions n call ≡ true) × IsLeft old call new
 IsWant old (steps.Hand slot op) answer new = (answer ≡ answers.File (Err (errors.OutOfMemory no_memory))) × (meets is_unsealed (hand_at slot old.hands) ≡ true) × CanWant op (hand_at slot old.hands) × (new ≡ old)
 
--- one step: the answer and the world after it are the definition's, or memory was wanting
+-- one step: the answer and the world after it are the definition's, or memory was refused
 abbrev pub Moves : WorldValue → Step → Answer → WorldValue → Type 0
 Moves old step answer new = (move old step ≡ (new, answer)) ⊎ IsWant old step answer new
 

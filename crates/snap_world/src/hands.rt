@@ -181,7 +181,7 @@ impl<N: StoreName> Model for Hands<N> {
 }
 
 impl<N: StoreName> Hands<N> {
-    // No hands, and so many places.
+    // No hands, and `slots` places.
     pub(crate) fn open(alloc: Global, slots: u64) -> Result<Hands<N>, AllocError>
         ensures { IfOk result (λ hands. hands ≡ replicate slots None) }
     {

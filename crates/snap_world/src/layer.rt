@@ -10,7 +10,7 @@ use std::alloc::AllocError;
 
 impl<N: StoreName> World<N> {
     /// A copy of the layer of the slot's snapshot, which shares nothing with it. `None` where the slot isn't open, or
-    /// its layer is sealed: such a one doesn't change.
+    /// its layer is sealed: a sealed one doesn't change.
     ///
     /// It leaves no entry, and fails only where memory is refused. Memory and cost are those of
     /// [`Layer::copy`](snap_layer::Layer::copy): the layer's inodes, names and bytes.

@@ -23,16 +23,16 @@ pub enum ReopenFault {
 impl<N: StoreName> World<N> {
     /// Takes the memory for the entry of a session, so that the next one is opened without memory, also in the
     /// next round ([`Book::reserve_session`](snap_book::Book::reserve_session)). Where that memory is kept
-    /// already it takes none; where memory is refused the world is as it was. The cost is constant, but where
-    /// the journal's list of entries has to grow.
+    /// already it takes none; where memory is refused the world is as it was. The cost is constant, except where the
+    /// journal's list of entries has to grow.
     pub fn reserve_session(&mut self) -> Result<(), AllocError>
         ensures { self.new ≡ self.old }
     {
         self.book.reserve_session()
     }
 
-    /// Begins the next round, whose journal has at most so many entries: it is empty, and sessions are
-    /// counted from 0 again. All snapshots stay, and what they show.
+    /// Begins the next round, whose journal has at most `journal` entries: it is empty, and sessions are counted from 0
+    /// again. All snapshots stay, and what they show.
     ///
     /// `StillOut` where a snapshot is open, and else the refusal of
     /// [`Book::next_round`](snap_book::Book::next_round); the world is then as it was. No entry is made.
@@ -55,7 +55,7 @@ impl<N: StoreName> World<N> {
     /// they are. It needs no place in the journal of the round that ends.
     ///
     /// The refusals are those of [`Book::roll`](snap_book::Book::roll), `JournalFull` among them where the new
-    /// journal has not an entry for the end of each open snapshot and one more; the world is then as it was. No
+    /// journal has no room for an entry for the end of each open snapshot and one more; the world is then as it was. No
     /// entry is made. Takes no memory. The cost is that of dropping the entries of the round that ends.
     pub fn roll(&mut self, journal: u64) -> Result<(), Refusal>
         ensures answer { result ≡ roll_answer self.old.state journal }

@@ -9,7 +9,7 @@ use Rattle.snap_writers.specs.declared.job.Worked.{Worked}
 use Rattle.snap_writers.specs.Jobs.{Each, ends_at, every, jobs_of}
 use Rattle.snap_writers.proofs.Every.{passed_over, taken_up}
 
--- of a worker's ends so many are taken, and its next job is so many jobs away
+-- of a worker's ends the first `taken` are taken, and its next job is `skip` jobs away
 pub record Taken (n k skip taken i : ℕ) (jobs : List Job) (ends mine : List Ended) : Type 0 where
   pub left : taken + length (every n skip (drop i jobs)) ≡ length mine
   pub goes : (fs : List Ended) → every n skip fs ≡ drop taken mine → every n k (ends ++ fs) ≡ mine

@@ -25,7 +25,7 @@ done_unprepared end none [] xs = refl
 done_unprepared end none (j ∷ js) [] = refl
 done_unprepared end none (j ∷ js) (x ∷ xs) = none j (done js (unprepared end xs)) ∙ done_unprepared end none js xs
 
--- no job was prepared, of so many that were not run
+-- of jobs that were not run none was prepared
 pub unprepared-none : {X : Type 0} (end : Ended) (xs : List X) → unprepared end (none_run xs) ≡ unprepared end xs
 unprepared-none end [] = refl
 unprepared-none end (x ∷ xs) = ap (λ (es : List Ended). end ∷ es) (unprepared-none end xs)

@@ -76,7 +76,7 @@ HasRunJob S inodes old new j before (Some end) = IsRunOf ⊥ inodes old new j be
 abbrev pub none_run : {X : Type 0} → List X → List Ended
 none_run js = map (λ _. ended.NotRun) js
 
--- of all a worker's jobs these are left, and so many are behind it, whose ends are told; the others' are NotRun
+-- of all a worker's jobs these are left, and `place` are behind it, whose ends are told; the others' are NotRun
 pub record IsGoing (inodes : ℕ) (all left : List Job) (s : SessionValue) (es : List Ended) (place : ℕ) : Type 0 where
   pub gone : List Job
   pub front : List Ended

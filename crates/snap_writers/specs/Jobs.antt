@@ -36,13 +36,13 @@ use Rattle.snap_writers.specs.declared.running.RunError.TheVariants.{File, Book}
 
 -- ---- which jobs are a worker's
 
--- each n-th element, after so many that are passed over
+-- every n-th element, once `skip` are passed over
 abbrev pub every : {X : Type 0} → ℕ → ℕ → List X → List X
 every n skip [] = []
 every n zero (x ∷ xs) = x ∷ every n (n - 1) xs
 every n (suc skip) (x ∷ xs) = every n skip xs
 
--- the jobs of a worker, counted from 1, among so many workers: those at whose places, from 0, the number of workers leaves the rest worker - 1
+-- the jobs of a worker, counted from 1, of `workers`: those whose places, from 0, leave the remainder worker - 1 on division by `workers`
 abbrev pub jobs_of : List Job → ℕ → ℕ → List Job
 jobs_of jobs worker workers = every workers (worker - 1) jobs
 
@@ -91,7 +91,7 @@ prepare_call j = calls.Prepare j.namespace j.key j.parent []
 abbrev pub prepared_entry : ℕ → Job → ℕ → ℕ → List ℕ → Entry
 prepared_entry n j slot id chain = call_entry n (prepare_call j) Nothing (replies.Prepared id slot chain)
 
--- a Charge of its snapshot for so much, which wants the job's extra beyond it
+-- a Charge of its snapshot for `need`, which wants the job's extra beyond it
 abbrev pub charge_call : Job → ℕ → ℕ → Usage → Call
 charge_call j slot id need = calls.Charge slot id need (wanted_charge need j.extra)
 

@@ -18,7 +18,7 @@ use Rattle.snap_store.specs.Values.{IsChargedTo}
 use Rattle.snap_writers.specs.declared.running.RunError.{RunError}
 use Rattle.snap_writers.specs.declared.running.RunError.TheVariants.{File, Book}
 
--- the snapshot with this layer, and with a share of so much; all else stays
+-- the snapshot with this layer, and with a share of `now`; all else stays
 abbrev pub with_layer_and_share : ActiveValue → Tree → Usage → ActiveValue
 with_layer_and_share a layer now = record { namespace = a.namespace; key = a.key; lowers = a.lowers; layer = layer; share = record a.share { usage = now } }
 

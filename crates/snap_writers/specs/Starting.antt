@@ -47,7 +47,7 @@ pub record AreBack (S : ℕ → Type 0) (inodes : ℕ) (jobs : List Job) (worker
   pub are : sessions ≡ sessions_of all
   pub order : AreInOrder jobs workers all ends
 
--- there are not 1 to 16 workers; or there are, and: memory was refused, of which nothing more is said; or the gate stopped this worker, and this is the report; or the sessions of all workers are back, and the close of the store failed for the cause. A store that comes back is of the round that it was of. S holds of a worker that the gate has stopped
+-- there are not 1 to 16 workers; or there are, and: memory was refused, and no more is said of it; or the gate stopped this worker, and this is the report; or the sessions that the workers got are back, and the store's close failed for the cause. A store that comes back is of the round that it was of. S holds of a worker that the gate has stopped
 abbrev pub IsFault : {N : Type 0} → (ℕ → Type 0) → Round → List Job → ℕ → RunFault N → Type 0
 IsFault S r jobs workers (faults.BadWorkers store) = (store ≡ r) × ((workers ≡ 0) ⊎ (16 < workers))
 IsFault S r jobs workers (faults.OutOfMemory store want) = (store ≡ r) × IsCount workers

@@ -7,7 +7,7 @@ use crate::job::{Ended, Ends, Job};
 use snap_record::Sequence;
 use std::alloc::{AllocError, Global};
 
-// A worker's number, its jobs' ends as no job was run, and the same as it got no thread.
+// A worker's number, its jobs' ends where no job was run, and the same where it got no thread.
 #[derive(Drop)]
 pub(crate) struct Assignment {
     pub(crate) worker: u32,
@@ -52,7 +52,7 @@ impl Assignment {
     }
 }
 
-// What each of so many workers starts with.
+// What each of `workers` workers starts with.
 pub(crate) fn assignments(
     alloc: Global,
     jobs: &[Job],

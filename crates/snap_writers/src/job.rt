@@ -44,7 +44,7 @@ pub struct Job {
 /// How a job ended.
 #[derive(Clone, Copy, Debug, PartialEq, Eq)]
 pub enum Ended {
-    /// It was committed under this id, and its layer takes so many blocks of 4096 bytes and inodes.
+    /// It was committed under this id, and its layer takes `usage`, in blocks of 4096 bytes and inodes.
     Committed { id: u32, usage: Usage },
     /// Its end was to discard, and it was discarded.
     Discarded,

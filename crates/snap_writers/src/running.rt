@@ -24,7 +24,7 @@ pub enum RunError {
     Book(Refusal),
 }
 
-// Charges the snapshot for the operation, which needs so much, and does it.
+// Charges the snapshot for the operation, which needs `need`, and does it.
 fn charge_and_apply<N: RoundName, R: Wait>(
     store: &Store<N>,
     rt: &R,

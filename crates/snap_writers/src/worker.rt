@@ -34,8 +34,8 @@ pub(crate) struct Fixed<'a, N: RoundName, R: Wait, G: Gate> {
     pub(crate) number: u32,
 }
 
-// A worker with its session. It has asked the gate for so many steps, and may make the last of them where the
-// gate let it pass and it is not made yet.
+// A worker with its session. It has asked the gate for `steps` steps, and may make the last of them where the gate let
+// it pass and it is not made yet.
 #[derive(Drop)]
 pub(crate) struct Worker<'a, N: RoundName, R: Wait, G: Gate> {
     pub(crate) fixed: Fixed<'a, N, R, G>,
@@ -307,8 +307,8 @@ fn unstarted(ends: Ends, why: Refusal) -> Ends
     ends
 }
 
-/// Opens a session for the worker and goes through the jobs that are its own: of so many workers, counted from
-/// 1, it takes those at whose places, from 0, their number leaves the rest `worker - 1`.
+/// Opens a session for the worker and goes through the jobs that are its own: of `workers` workers, counted from 1, it
+/// takes those whose places, from 0, leave the remainder `worker - 1` on division by their number.
 ///
 /// Before each prepare, each operation and each end of a job it asks the gate. Where that stops it, it discards
 /// what it holds, and that job and its later ones are [`Ended::NotRun`]. It discards what it can't commit. Where

@@ -37,9 +37,9 @@ impl Room {
 /// The greatest number of workers.
 pub const MAX_WORKERS: u32 = 16;
 
-/// Runs the jobs by so many workers, each on a thread of its own and with a session of its own, and closes the
-/// store once all have ended. Each worker goes through its jobs as [`run_worker`](crate::run_worker) does; one
-/// that gets no thread ends each of its jobs [`Ended::NoThread`].
+/// Runs the jobs by `workers` workers, each on a thread of its own and with a session of its own, and closes the store
+/// once all have ended. Each worker goes through its jobs as [`run_worker`](crate::run_worker) does; one that gets no
+/// thread ends each of its jobs [`Ended::NoThread`].
 ///
 /// The first of these that holds: `BadWorkers` where there are not 1 to 16 of them; `OutOfMemory` where memory
 /// is refused before a thread is started; `NotClosed` where the store can't be closed, as where a session is

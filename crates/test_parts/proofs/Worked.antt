@@ -30,7 +30,7 @@ replays : Replays start small_round end
 unfolding lowest_free
 replays = (omega arith, refl, (tt, refl, (refl, refl, refl)))
 
--- what the contract says of a page of one entry after the first, where `a` is charged so much after the entries
+-- what the contract says of a page of one entry after the first, where `a` is charged `now` after the entries
 abbrev pub Told : List Entry → List (Option Usage) → Usage → List EntryInfo → Type 0
 Told es shares now page =
     (s t : State) → Good s → length shares ≡ s.slots → (last_made (97 ∷ []) es ≡ None → shares ≡ namespace_shares (97 ∷ []) s) → Replays s es t → t.entries ≡ 3 → namespace_charge (97 ∷ []) t ≡ now → page ≡ history_page 1 1 (history_since (97 ∷ []) s es)

@@ -140,7 +140,7 @@ fn files_that_are_none(rt: HostRuntime) {
     }
 }
 
-// What was acknowledged of a line, and then two as one, on a disk that stops after so many calls.
+// What was acknowledged of a line, and then two as one, on a disk that stops after `calls` calls.
 fn until<R: Abort + AllocGlobal>(rt: &R, calls: u64) -> (Fuse<Memory>, usize) {
     let disk = Fuse::new(Memory::new(rt.alloc()), calls);
     let log = match Log::open(disk) {

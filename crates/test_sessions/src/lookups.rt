@@ -47,7 +47,7 @@ fn read(alloc: Global, content: &Content) -> Result<Answer, AllocError> {
     }
 }
 
-// The bytes of a file from the offset on, at most so many, and how many it has; or its size and its digest.
+// The bytes of a file from the offset on, at most `most`, and how many it has; or its size and its digest.
 fn part(alloc: Global, content: &Content, offset: u64, most: u64) -> Result<Answer, AllocError> {
     match content {
         Content::Bytes(bytes) => {

@@ -135,8 +135,8 @@ fn without_ids<R: Abort>(rt: &R, alloc: Global, ends: &[Ended]) -> Vec<Ended> {
     all
 }
 
-// Runs the jobs by so many workers through the gate. Found are the first worker that it stopped, the end of
-// each job without its id, and what the namespace a is charged.
+// Runs the jobs by this many workers through the gate, and compares the first worker that it stopped, the end of each
+// job without its id, and what the namespace a is charged.
 fn end_so<N: RoundName + Send + Sync, R: Threads + Wait + Abort + Sync, G: Gate>(
     rt: &R,
     alloc: Global,

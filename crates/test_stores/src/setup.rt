@@ -38,7 +38,7 @@ pub fn path<R: Abort>(rt: &R, alloc: Global, text: &str) -> Path {
     Path::parse(alloc, text).expect(rt, "a path")
 }
 
-/// The namespace a with the limit, and a journal of so many entries.
+/// The namespace a with the limit, and a journal of `journal` entries.
 pub fn config<R: Abort>(rt: &R, alloc: Global, limit: Usage, journal: u64) -> Config
     ensures { result ≡ record { root = codes "/r"; namespaces = record { name = codes "a"; limit = limit } ∷ []; slots = 64; journal = journal; first_id = 1; layer_inodes = 65536; ancestors = 64 } }
 {

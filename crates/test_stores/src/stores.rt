@@ -10,7 +10,7 @@ use std::alloc::Global;
 use std::process::Abort;
 use std::sync::Wait;
 
-/// A store whose namespace a has 100/100, without sessions, in a round of so many entries.
+/// A store whose namespace a has 100/100, without sessions, in a round of `journal` entries.
 pub fn opened<N: RoundName, R: Abort>(
     rt: &R,
     alloc: Global,
@@ -37,8 +37,8 @@ pub fn listed<const N: usize, R: Abort>(
     Vec::from_array(alloc, sessions).expect(rt, "memory for sessions")
 }
 
-/// Prepares so many keys, each one letter longer than the one before, and keeps what is granted. The
-/// others are refused for want of a slot.
+/// Prepares `keys` keys, each one letter longer than the one before, and keeps what is granted. The others are refused
+/// for want of a slot.
 pub fn prepare_all<N: RoundName, R: Wait + Abort>(
     rt: &R,
     alloc: Global,
@@ -93,7 +93,7 @@ pub fn commit<N: RoundName, R: Wait + Abort>(
     }
 }
 
-/// The answer of a close that is refused with these words, while so many snapshots of the namespace a are open, whose
+/// The answer of a close that is refused with these words, while `open` snapshots of the namespace a are open, whose
 /// keys are those of `prepare_all` with this letter. The store and the sessions come back.
 pub fn not_closed<N: RoundName, R: Abort>(
     rt: &R,
@@ -126,8 +126,8 @@ pub fn not_closed<N: RoundName, R: Abort>(
     (store, sessions)
 }
 
-/// The store, closed with all sessions of the round. The namespace a is charged so much, and the round had
-/// so many entries.
+/// The store, closed with all sessions of the round. The namespace a is charged `charged`, and the round had `entries`
+/// entries.
 pub fn closed<N: RoundName, R: Abort>(
     rt: &R,
     round: &str,
@@ -146,7 +146,7 @@ pub fn closed<N: RoundName, R: Abort>(
     }
 }
 
-/// The next round, of so many entries.
+/// The next round, of `journal` entries.
 pub fn reopened<N: RoundName, R: Abort>(rt: &R, closed: Closed<N>, journal: u64) -> Store<N> {
     match Store::reopen(closed, journal) {
         Ok(store) => store,

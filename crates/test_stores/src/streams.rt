@@ -28,7 +28,7 @@ const ANSWERS: &[u8] = br#"{"ok":true}
 {"session":1}
 "#;
 
-/// Gives the bytes at each of so many reads, and then fails.
+/// Gives the bytes at each of `reads` reads, and then fails.
 #[derive(Drop)]
 struct Repeated {
     bytes: &'static [u8],
@@ -47,7 +47,7 @@ impl io::Read for Repeated {
     }
 }
 
-/// Takes at most five bytes at every second write, and is interrupted at the others. It fails after so many writes.
+/// Takes at most five bytes at every second write, and is interrupted at the others. It fails after `most` writes.
 #[derive(Drop)]
 struct Slow {
     writes: usize,

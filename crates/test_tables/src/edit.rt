@@ -82,7 +82,7 @@ pub(crate) enum Answer {
     Numbered(u32),
 }
 
-/// How often each kind is chosen: so often as it stands here.
+/// How often each kind is chosen: as often as it stands here.
 const CHOICES: [Kind; 22] = [
     Kind::AddDir,
     Kind::AddDir,

@@ -99,7 +99,7 @@ impl Lists {
         Ok(())
     }
 
-    /// Looks all paths up so many times, and prints how many of the lookups met a file.
+    /// Looks all paths up `times` times, and prints how many of the lookups met a file.
     fn looks(&self, rt: &impl Print, times: u64) -> io::Result<()> {
         let mut seen = 0u64;
         if let Some(upper) = self.uppers.first() {

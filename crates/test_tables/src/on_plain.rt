@@ -156,7 +156,7 @@ impl Plain {
         Ok(())
     }
 
-    /// `LayerFull` where what stands at the path is taken, an inode is added, and the layer may not have so many.
+    /// `LayerFull` where what stands at the path is taken, an inode is added, and the layer may not have that many.
     fn check_inodes(&self, path: &Path, adds: bool) -> Result<(), LayerError> {
         if self.inodes_without(path).saturating_add(usize::from(adds)) > self.most {
             return Err(LayerError::LayerFull);

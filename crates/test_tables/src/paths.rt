@@ -22,7 +22,7 @@ pub(crate) struct Paths {
 }
 
 impl Paths {
-    /// Each name is so many times its letter.
+    /// Each name is its letter, `length` times.
     pub(crate) fn new(alloc: Global, length: usize) -> Result<Paths, AllocError> {
         let mut list = Vec::new(alloc);
         list.push(Path::root(alloc))?;
@@ -60,7 +60,7 @@ impl Paths {
     }
 }
 
-/// The path of a name in the directory: so many times the letter.
+/// The path of a name in the directory: the letter, `length` times.
 fn path_below(
     alloc: Global,
     directory: &Path,

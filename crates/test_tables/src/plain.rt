@@ -70,7 +70,7 @@ impl Plain {
             && (self.next, self.most) == (other.next, other.most)
     }
 
-    /// What stands at the path of the first so many names of a path.
+    /// What stands at the path of a path's first `names` names.
     pub(crate) fn at_front(&self, path: &Path, names: usize) -> Option<Node> {
         let front = path.names().get(..names)?;
         for (other, node) in &self.entries {

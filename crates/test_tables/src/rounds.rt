@@ -36,7 +36,7 @@ pub(crate) fn compare(rt: &(impl Print + AllocGlobal)) -> io::Result<bool> {
     Ok(true)
 }
 
-/// Makes so many edits on a new layer and a plain one. The answer is whether there is no difference.
+/// Makes `edits` edits on a new layer and a plain one. The answer is whether there is no difference.
 fn compare_layers(
     rt: &(impl Print + AllocGlobal),
     random: &mut Pcg32,

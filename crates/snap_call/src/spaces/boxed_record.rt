@@ -29,8 +29,7 @@ impl Model for BoxedRecord {
 }
 
 impl BoxedRecord {
-    /// Takes memory for the record without its texts. Where it is wanting, the error gives the record
-    /// back.
+    /// Takes memory for the record without its texts. Where it is refused, the error gives the record back.
     pub(super) fn new(alloc: Global, value: Record) -> Result<BoxedRecord, (NoMemory, Record)>
         ensures ok { IfOk result (λ b. b ≡ value) }
         ensures value_returned { IfErr result (λ back. back.1 ≡ value) }

@@ -85,7 +85,7 @@ impl Group {
         }
     }
 
-    /// Puts a record in its place. Where memory is wanting, the records are as they were and the
+    /// Puts a record in its place. Where memory is refused, the records are as they were and the
     /// error gives the record back.
     pub(super) fn insert(
         &mut self,
@@ -140,7 +140,7 @@ impl Group {
     }
 
     /// The infos with those of the records whose keys come after the text and that have every part of
-    /// the filter, until there are so many. It begins by a search for the text.
+    /// the filter, until there are `most`. It begins by a search for the text.
     pub(super) fn page(
         &self,
         alloc: Global,
@@ -194,7 +194,7 @@ impl Group {
     }
 }
 
-/// Puts a record into a map of records of one namespace by their keys. Where memory is wanting, the
+/// Puts a record into a map of records of one namespace by their keys. Where memory is refused, the
 /// map is as it was and the error gives the record back.
 fn put(
     map: &mut BTreeMap<String, BoxedRecord>,

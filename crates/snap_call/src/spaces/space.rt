@@ -92,7 +92,7 @@ impl Space {
         self.parents.count(key)
     }
 
-    /// Puts a record in its place. Where memory is wanting, the records are as they were and the
+    /// Puts a record in its place. Where memory is refused, the records are as they were and the
     /// error gives the record back.
     pub(super) fn insert(&mut self, added: Record) -> Result<(), (NoMemory, Record)>
         requires of { IsOf added.namespace self.old }
@@ -136,8 +136,8 @@ impl Space {
     }
 
     /// The infos of the records whose keys come after the text and that have every part of the
-    /// filter: the first so many of them. It begins by a search for the text. The memory is that of the
-    /// infos and, where keys begin alike, of a copy of the text at a time.
+    /// filter: the first `most` of them. It begins by a search for the text. The memory is that of the infos and, where
+    /// keys begin alike, of a copy of the text at a time.
     pub(crate) fn page(
         &self,
         alloc: Global,
@@ -173,8 +173,8 @@ impl Space {
     }
 }
 
-/// Puts a record into the map of a namespace. Where memory is wanting, the records are as they were and
-/// the error gives the record back.
+/// Puts a record into the map of a namespace. Where memory is refused, the records are as they were and the error gives
+/// the record back.
 fn put(
     map: &mut BTreeMap<Beginning, Group>,
     alloc: Global,
