@@ -85,7 +85,7 @@ class Round:
                 answered.set()
 
     def run(self, seconds):
-        """Lets the callers call for so long, and kills the process."""
+        """Lets the callers call for this long, and kills the process."""
         threads = [threading.Thread(target=self.call, args=(caller,)) for caller in self.callers]
         threads.append(threading.Thread(target=self.read))
         for thread in threads:

@@ -1,5 +1,5 @@
 /* Stands between a process and a file that it reads and writes at places and syncs: counts these calls, fails one of
-   them, gives the file so much room and no more, and records what was written. The calls and the numbers that steer them
+   them, limits the room of the file, and records what was written. The calls and the numbers that steer them
    are in a file that the environment's DISK names, which is mapped, so that they can be looked at and changed while the
    process runs. Where RECORD names a file, each write, each sync and each answer is added to that: its kind, its place
    and its number of bytes, 8 bytes each, and the bytes. It takes the place of the C library's functions by LD_PRELOAD.

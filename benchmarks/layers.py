@@ -29,7 +29,7 @@ REPEATS = 5
 PATHS = 1000
 EDITS = 1500
 CHUNK = 1000
-# A measurement takes so long, in seconds.
+# How long a measurement takes, in seconds.
 LEAST_PLAIN, MOST_OURS = 0.02, 0.4
 # A prime number, so that its multiples go through all entries in no order.
 STRIDE = 7919

@@ -41,7 +41,7 @@ func WithMode(mode uint32) Option { return Option{"mode", mode, []string{"mkdir"
 // WithDigest says by which digest the content of a file of a size is known.
 func WithDigest(digest string) Option { return Option{"digest", digest, []string{"put"}} }
 
-// WithExtra has a file command charge so much more, where it makes a charge and that fits.
+// WithExtra has a file command charge this much more, where it makes a charge and that fits.
 func WithExtra(extra Usage) Option { return Option{"extra", extra, fileCommands} }
 
 // WithWhole has a batch do all of its operations or none: where one is refused, the layer is as it was.

@@ -70,7 +70,7 @@ const (
 	ErrTooDeep Reason = "TooDeep"
 	// ErrTooManyActives: as many snapshots are active as the store was opened for.
 	ErrTooManyActives Reason = "TooManyActives"
-	// ErrOverLimit: the namespace hasn't so much free. The Refusal tells what it has.
+	// ErrOverLimit: the namespace doesn't have that much free. The Refusal tells what it has.
 	ErrOverLimit Reason = "OverLimit"
 	// ErrBelowCharge: the limit would be below what is charged.
 	ErrBelowCharge Reason = "BelowCharge"

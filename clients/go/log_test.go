@@ -488,7 +488,7 @@ func kills() int {
 	return 20
 }
 
-// The snapshots of this kill are those that were answered, and at most so many more. What was prepared may have been
+// The snapshots of this kill are those that were answered, and at most this many more. What was prepared may have been
 // committed since. All active snapshots are discarded then, and the log is left.
 func checkAnswered(t *testing.T, path string, kill int, answered map[string]Kind, more int) {
 	t.Helper()

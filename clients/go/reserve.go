@@ -91,8 +91,8 @@ func (l *log) release(c *call) {
 	l.coming -= c.room()
 }
 
-// Has this number of bytes of the disk behind the lines, and twice the reserve more where there is so much; where there is
-// less than the former, what there is.
+// Has this number of bytes of the disk behind the lines, and twice the reserve more where there is that much; where
+// there is less than the former, what there is.
 func (l *log) extend(bytes int64) error {
 	if l.isNone {
 		return nil

@@ -9,7 +9,8 @@ import (
 	"testing"
 )
 
-// A store with a log, whose journal of so many entries is full: a snapshot is active, whose discard keeps the last one.
+// A store with a log, whose journal of this many entries is full: a snapshot is active, whose discard keeps the last
+// one.
 func fullStore(t *testing.T, entries uint64) (*Store, string) {
 	t.Helper()
 	config := loggedConfig(logPath(t))

@@ -324,8 +324,8 @@ class Kills(unittest.TestCase):
                     store.discard("a", node.key)
 
     def check(self, kill: int, answered: dict[str, Kind], *, more: int) -> None:
-        """The snapshots of this kill are those that were answered, and at most so many more. What was prepared may have
-        been committed since."""
+        """The snapshots of this kill are those that were answered, and at most this many more. What was prepared may
+        have been committed since."""
         with self.store() as store:
             found = {it.key: it for it in store.tree("a") if it.key.startswith(f"{kill}-")}
             for key, kind in answered.items():

@@ -81,7 +81,7 @@ def started(*calls: Callable[[], object]) -> Tuple[List[threading.Thread], Ended
 
 
 def wait_for_sent(store: Store, count: int) -> None:
-    """Waits until so many calls are sent, none of which is answered."""
+    """Waits until this many calls are sent, none of which is answered."""
     wait_until(lambda: len(store._connection._sent) == count)
 
 
@@ -283,7 +283,7 @@ class Ends(InFolder):
         self.assertEqual(len(self.lines()), 9)
 
     def test_stopped_process(self) -> None:
-        """A close waits so many seconds, and kills it then. The calls that wait are told so."""
+        """A close waits this many seconds, and kills it then. The calls that wait are told so."""
         store = open_store()
         with stopped(store):
             threads, ended = started(store.report)

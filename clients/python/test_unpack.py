@@ -17,7 +17,7 @@ from stores import open_store
 EMPTY = "sha256:e3b0c44298fc1c149afbf4c8996fb92427ae41e4649b934ca495991b7852b855"
 ABC = "sha256:ba7816bf8f01cfea414140de5dae2223b00361a396177a9cb410ff61f20015ad"
 
-# A path that ends with a slash is a directory; `->` is a symlink, `=` a hard link, and any other has so many bytes.
+# A path that ends with a slash is a directory; `->` is a symlink, `=` a hard link, and any other has these bytes.
 Row = Tuple[str, str]
 
 
@@ -112,7 +112,7 @@ class Unpacking(unittest.TestCase):
             self.assertEqual(store.listdir("a", "k", "/"), ("d", "sbin"))
 
     def test_batches(self) -> None:
-        """Of so many operations each: the seven of the layer's eleven, and the rest."""
+        """Of at most as many operations as asked for: seven of the layer's eleven, and the rest."""
         with open_store() as store:
             store.prepare("a", "k", "")
             made = store.unpack("a", "k", archive(LOWER), operations=7)

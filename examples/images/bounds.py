@@ -46,7 +46,7 @@ class Bounds:
         self._most = {name: getattr(self, name) for name in NAMES}
 
     def take(self, name: str, number: int) -> None:
-        """So much of a bound is used. Unreadable where it isn't there."""
+        """Uses this much of a bound. Unreadable where it isn't there."""
         setattr(self, name, getattr(self, name) - number)
         self.check()
 

@@ -319,8 +319,8 @@ func TestRuleAKnownChangeIsTakenFirst(t *testing.T) {
 	w.check()
 }
 
-// A raise in one quantity never waits for the other: where the limit in blocks is below what is granted, inodes are had at
-// once, and the other way round.
+// A raise in one quantity never waits for the other: where the limit in blocks is below what is granted, inodes are
+// granted at once, and the other way round.
 func TestRuleAQuantityDoesntWaitForTheOther(t *testing.T) {
 	w := newWorld(t)
 	w.limit("a", 100, 100)

@@ -221,7 +221,7 @@ func (w *worker) drop(tenant string) string {
 	return key
 }
 
-// A snapshot with a file of so many blocks: first what it may need is charged, then the rest of that goes back.
+// A snapshot with a file of this many blocks: first what it may need is charged, then the rest of that goes back.
 func (w *worker) make(tenant, key string, blocks uint64) error {
 	more := func(do string, need Usage, call func(context.Context) error) error {
 		return w.agent.Charge(ctx, tenant, need, func(ctx context.Context) error {

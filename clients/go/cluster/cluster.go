@@ -67,7 +67,7 @@ type Config struct {
 	Store Store
 	// Start is AtOnce where it is empty.
 	Start Start
-	// Batch is how much more than it needs a store asks for at the most, and what an idle one keeps: 64/64.
+	// Batch is how much more than it needs a store asks for at most, and what an idle one keeps: 64/64.
 	Batch Usage
 	// Share is such that at most 1/Share of what is left of the pool is taken beyond the need: twice the number of stores
 	// that have joined.
@@ -277,12 +277,12 @@ func (a *Agent) Metrics(ctx context.Context) (Metrics, error) {
 }
 
 // Charge makes a call that charges a tenant, as Prepare, Charge or Put of a store. Where the store refuses it as
-// pibroulez.ErrOverLimit, the agent has so much granted that `need` more is free, and makes it again. need is all that
+// pibroulez.ErrOverLimit, the agent gets enough granted that `need` more is free, and makes it again. need is all that
 // the call charges beyond what is charged now.
 //
-// The error is the call's own, or a *Refused where no room was had, or a *StateError where the agent has come to an end,
-// or still settles and Config.Start is AfterSettling. pibroulez.ErrNoNamespace is of a tenant that the store doesn't have.
-// Where the call is granted within the store's own limit, etcd isn't asked.
+// The error is the call's own, or a *Refused where no room was found, or a *StateError where the agent has come to an
+// end, or still settles and Config.Start is AfterSettling. pibroulez.ErrNoNamespace is of a tenant that the store
+// doesn't have. Where the call is granted within the store's own limit, etcd isn't asked.
 func (a *Agent) Charge(ctx context.Context, tenant string, need Usage, call func(context.Context) error) error {
 	t := a.tenants[tenant]
 	if t == nil {

@@ -307,7 +307,7 @@ func (n *node) settle() *node {
 	return n
 }
 
-// Makes a snapshot that is charged so many blocks and inodes, or none.
+// Makes a snapshot that is charged these blocks and inodes, or none.
 func (n *node) take(tenant, key string, all Usage) error { return n.takeUntil(ctx, tenant, key, all) }
 
 func (n *node) takeUntil(ctx context.Context, tenant, key string, all Usage) error {

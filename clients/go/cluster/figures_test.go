@@ -212,8 +212,8 @@ func BenchmarkFiguresOfRecall(t *testing.B) {
 	fmt.Printf("figure: 10 nodes with recall: %d of %d charged, %d refusals while as much was free\n", charged, limit, refusals)
 }
 
-// Grants of nodes that all take from one tenant, each exactly, for so long: one node alone, and 16 at pools in so many
-// shards, and at one that they divide themselves.
+// Grants of nodes that all take from one tenant, each exactly, for 10 seconds: one node alone, and 16 at pools in 1, 4
+// and 16 shards, and at one that they divide themselves.
 func BenchmarkFiguresOfAHotTenant(t *testing.B) {
 	for _, it := range []struct {
 		nodes, shards int
@@ -239,8 +239,8 @@ func BenchmarkFiguresOfAHotTenant(t *testing.B) {
 	}
 }
 
-// Grants of all for so long. What doesn't depend on other work on the machine: the transactions that each grant took, of
-// which each is a round trip, and the processors' time.
+// Grants of all nodes for this long. What doesn't depend on other work on the machine: the transactions that each grant
+// took, of which each is a round trip, and the processors' time.
 func (w *world) hot(t testing.TB, nodes []memoryNode, how time.Duration) string {
 	t.Helper()
 	var group sync.WaitGroup
@@ -384,9 +384,9 @@ func (n *tenantOfNode) hear(k *known, of *generation) bool {
 	return isAll
 }
 
-// What the agents of so many nodes with these tenants do beside their grants: each watches the shards of a tenant, and tells
-// every 5 seconds what its store is charged. Ends it, and prints what it was. An agent has two more watches of a tenant,
-// which grants tell nothing.
+// What the agents of the nodes with these tenants do beside their grants: each watches the shards of a tenant, and
+// tells every 5 seconds what its store is charged. Ends it, and prints what it was. An agent has two more watches of a
+// tenant, which grants tell nothing.
 func (w *world) beside(t testing.TB, names [][]string, identity func(int) string, tell func(node, i int, it *clientv3.Event)) (end func()) {
 	t.Helper()
 	const clients, report, workers = 16, 5 * time.Second, 64
@@ -448,7 +448,7 @@ func (w *world) beside(t testing.TB, names [][]string, identity func(int) string
 	}
 }
 
-// So many grants a second are asked for. How many there are, and what the median takes, from when it was to begin.
+// Asks for this many grants a second. How many there are, and what the median takes, from when it was to begin.
 func (w *world) checkPace(t testing.TB, asked, seconds, workers int, grant func(i int) error) {
 	t.Helper()
 	begin := time.Now()
@@ -467,7 +467,7 @@ func (w *world) checkPace(t testing.TB, asked, seconds, workers int, grant func(
 	}
 }
 
-// Calls a function with each number, by so many at a time.
+// Calls a function with each number, by this many workers.
 func parallel(t testing.TB, count, workers int, do func(i int) error) {
 	t.Helper()
 	numbers, ends := make(chan int), make(chan error, workers)

@@ -456,7 +456,7 @@ func (a *Agent) room(ctx context.Context, tenant string) (*snapshot, error) {
 	return found, nil
 }
 
-// How many operations a transaction of etcd has, at the most, as it is configured where nothing is said.
+// How many operations a transaction of etcd has at most, as it is configured where nothing is said.
 const mostOps = 128
 
 func least(a, b int) int {

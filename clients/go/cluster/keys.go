@@ -37,7 +37,7 @@ func (k keys) forgotten(store string) string { return k.prefix + "/f/" + store }
 
 // Hints: no grant depends on them.
 
-// That a store waits for so much.
+// How much a store waits for.
 func (k keys) want(tenant, store string) string { return k.wants(tenant) + store }
 
 // That the agent of a store answers, and what it was charged.

@@ -112,7 +112,7 @@ func callsOfLines(lines []logLine, calls map[string][]*chaosCall) ([]*chaosCall,
 	return ofLines, nil
 }
 
-// When a store may have been charged so much.
+// When a store may have been charged this much.
 type interval struct {
 	from, to int64
 	charged  Usage

@@ -59,7 +59,7 @@ type TenantQuota struct {
 	Limit, Granted, Free Usage
 	// Shards is in how many shards that is kept.
 	Shards int
-	// Above is what is granted above the limit, after it was lowered: so much is still to come back.
+	// Above is what is granted above the limit, after it was lowered: that is still to come back.
 	Above Usage
 	// Holdings are in order of nodes and stores.
 	Holdings []Holding

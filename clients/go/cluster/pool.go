@@ -6,7 +6,7 @@ import (
 	"pibroulez.example/pibroulez/cluster/rules"
 )
 
-// MostShards is how many shards a tenant's pool has at the most: a transaction that writes them all is within what etcd
+// MostShards is how many shards a tenant's pool has at most: a transaction that writes them all is within what etcd
 // takes.
 const MostShards = 64
 
@@ -156,7 +156,7 @@ func takeShards(r *clientv3.GetResponse, keys keys, count int) ([]knownShard, er
 	return shards, nil
 }
 
-// The pool of a tenant with a limit of which so much is granted, in shards.
+// The pool of a tenant with a limit of which this much is granted, in this many shards.
 func dividedOf(limit, granted Usage, shards int) (tenantRecord, []shardRecord) {
 	free, debt := minus(limit, granted), minus(granted, limit)
 	parts := make([]shardRecord, shards)

@@ -71,7 +71,7 @@ func TestDebt(t *testing.T) {
 	equal(t, w.shards("a")[0].Blocks+w.shards("a")[1].Blocks, uint64(0))
 	must(one.st.Discard(ctx, "a", "0"))(t)
 	must(0, one.giveBack("a"))(t)
-	// 20 of 30 are paid, and the other store gets none of them. Inodes are had meanwhile.
+	// 20 of 30 are paid, and the other store gets none of them. Inodes are granted meanwhile.
 	equal(t, must(w.operator.Quota(ctx, "a"))(t).Above, usage(10, 0))
 	isError(t, two.take("a", "l", usage(1, 1)), pibroulez.ErrOverLimit)
 	must(0, two.Charge(ctx, "a", usage(0, 50), func(ctx context.Context) error {

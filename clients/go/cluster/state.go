@@ -226,7 +226,7 @@ func (a *Agent) closed() {
 	a.tell()
 }
 
-// Waits for a signal, at most so long.
+// Waits for a signal, at most this long.
 func (a *Agent) await(signal <-chan struct{}, how time.Duration) {
 	timer := time.NewTimer(how)
 	defer timer.Stop()

@@ -93,7 +93,7 @@ type Status struct {
 var (
 	// ErrNoTenant: no operator has given the tenant a limit in the cluster.
 	ErrNoTenant = errors.New("the tenant has no limit in the cluster")
-	// ErrLocalLimit: this node's own limit for the tenant, Config.Local, doesn't leave so much.
+	// ErrLocalLimit: this node's own limit for the tenant, Config.Local, doesn't leave that much.
 	ErrLocalLimit = errors.New("the node's limit for the tenant is reached")
 	// ErrDrained: an operator drains this store, so it takes no more.
 	ErrDrained = errors.New("the store is drained")
@@ -124,7 +124,7 @@ func (b *BadRecord) Error() string { return fmt.Sprintf("%s: %v", b.Key, b.Cause
 // Unwrap is what is wrong with the value.
 func (b *BadRecord) Unwrap() error { return b.Cause }
 
-// A Refused is a charge for which no room was had within Config.Patience. errors.Is tells that it is
+// A Refused is a charge for which no room was found within Config.Patience. errors.Is tells that it is
 // pibroulez.ErrOverLimit, and its cause.
 type Refused struct {
 	Tenant string

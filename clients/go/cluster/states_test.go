@@ -361,7 +361,7 @@ func TestIdleAndRecall(t *testing.T) {
 }
 
 // With recall no charge is refused while as much is free on nodes that answer: four nodes charge until nothing is left, and
-// each amount that the limit leaves is had, wherever it lies, also in other shards.
+// each amount that the limit leaves is granted, wherever it lies, also in other shards.
 func TestNoRefusalWithRoom(t *testing.T) {
 	w := newWorld(t)
 	w.limit("a", 300, 1000)

@@ -133,8 +133,8 @@ var (
 	errNotGranted = errors.New("the grant may not be written")
 )
 
-// Has room for a call that was refused, and makes it again, as long as patience lasts. Room that was had is reserved until
-// the call has ended.
+// Has room for a call that was refused, and makes it again, as long as patience lasts. Room that was found is reserved
+// until the call has ended.
 func (a *Agent) obtain(ctx context.Context, t *tenant, need Usage, call func(context.Context) error) error {
 	deadline := time.Now().Add(a.config.Patience)
 	for try := 0; ; try++ {
@@ -329,7 +329,7 @@ func shareOfShard(share, shards uint64) uint64 {
 // The store's own shard: they are shared out among the stores in order.
 func (t *tenant) home(a *Agent) int { return int(a.place.Load()) % len(t.known.shards) }
 
-// Has etcd grant `to`, always by a write, and then raises the store's own limit to that. The turn is had.
+// Has etcd grant `to`, always by a write, and then raises the store's own limit to that. The caller has the turn.
 func (a *Agent) grantAndSet(ctx context.Context, t *tenant, to, bound Usage) error {
 	if a.config.isUnwritten && covers(t.known.grant.Grant, to) {
 		t.written = t.known.grant.Grant
@@ -428,7 +428,8 @@ func (a *Agent) write(ctx context.Context, t *tenant, to, bound Usage) error {
 	return a.look(of, err)
 }
 
-// Gives back what is neither charged, nor reserved, nor to be kept: the store's own limit first. The turn is had.
+// Gives back what is neither charged, nor reserved, nor to be kept: the store's own limit first. The caller has the
+// turn.
 func (a *Agent) lower(ctx context.Context, t *tenant, keep Usage) error {
 	for try := 0; try < tries; try++ {
 		quota, err := a.config.Store.Quota(ctx, t.name)
@@ -457,7 +458,7 @@ func (a *Agent) lower(ctx context.Context, t *tenant, keep Usage) error {
 	return nil
 }
 
-// Sets the grant to the store's own limit. The turn is had.
+// Sets the grant to the store's own limit. The caller has the turn.
 func (a *Agent) settle(ctx context.Context, t *tenant) error {
 	for losses := 0; ; losses++ {
 		a.backOff(t, losses)
@@ -502,7 +503,7 @@ func (a *Agent) settledOne(t *tenant) {
 	}
 }
 
-// How long is waited after a lost compare, at the most, also where etcd is slow.
+// How long is waited after a lost compare, at most, also where etcd is slow.
 const mostBackOff = 400 * time.Millisecond
 
 // Waits a moment where compares were lost, and the longer the more: at random within as many transactions as there may be

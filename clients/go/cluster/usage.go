@@ -35,7 +35,7 @@ func covers(a, b Usage) bool { return a.Blocks >= b.Blocks && a.Inodes >= b.Inod
 // A view of each quantity.
 type views struct{ blocks, inodes rules.View }
 
-// What a store knows, where so much is free in the shards that it looks at.
+// What a store knows, where this much is free in the shards that it looks at.
 func viewsOf(k *known, free, bound Usage) views {
 	debt, grant := k.tenant.Debt, k.grant.Grant
 	return views{

@@ -84,7 +84,7 @@ func TestContextsThatEnd(t *testing.T) {
 	}
 }
 
-// Makes so many calls by so many goroutines, and notes the answer of each.
+// Makes this many calls from this many goroutines, and notes the answer of each.
 func each(calls, goroutines int, do func(n int) bool, answers map[string]bool, prefix string) {
 	var next atomic.Int64
 	var mutex sync.Mutex

@@ -71,7 +71,7 @@ func (s *Snapshotter) record(ctx context.Context, info pibroulez.Info) error {
 	return nil
 }
 
-// Charges an active snapshot at least so much in all.
+// Charges an active snapshot at least this much in all.
 func (s *Snapshotter) chargeFor(ctx context.Context, key string, need pibroulez.Usage) error {
 	return s.chargeBy(ctx, key, need, func(ctx context.Context) error {
 		_, err := s.store.Charge(ctx, s.namespaceOf(key), key, need)
@@ -79,7 +79,7 @@ func (s *Snapshotter) chargeFor(ctx context.Context, key string, need pibroulez.
 	})
 }
 
-// Makes a call that charges an active snapshot at least so much in all.
+// Makes a call that charges an active snapshot at least this much in all.
 func (s *Snapshotter) chargeBy(ctx context.Context, key string, need pibroulez.Usage, call func(context.Context) error) error {
 	s.scans.change()
 	namespace := s.namespaceOf(key)
@@ -108,7 +108,7 @@ type wants struct {
 
 func (w *wants) Unwrap() error { return w.error }
 
-// The error of a call that charges a snapshot so much more.
+// The error of a call that charges a snapshot this much more.
 func (s *Snapshotter) wanting(err error, key string, more pibroulez.Usage) error {
 	if errors.Is(err, pibroulez.ErrOverLimit) {
 		return &wants{err, key, s.namespaceOf(key), more}
@@ -116,7 +116,7 @@ func (s *Snapshotter) wanting(err error, key string, more pibroulez.Usage) error
 	return err
 }
 
-// Error says what the tenant has free, or in a cluster why nothing was had.
+// Error says what the tenant has free, or in a cluster why it got nothing.
 func (w *wants) Error() string {
 	words := w.error.Error()
 	if refusal := new(pibroulez.Refusal); errors.As(w.error, &refusal) && refusal.Words == "" {
@@ -125,7 +125,7 @@ func (w *wants) Error() string {
 	return fmt.Sprintf("%s, and snapshot %q wants %d blocks, %d inodes more", words, w.key, w.more.Blocks, w.more.Inodes)
 }
 
-// What a commit that came to no end has left in a snapshot's layer: each path, and how it changes what is below. Without a
+// What an unfinished commit has left in a snapshot's layer: each path, and how it changes what is below. Without a
 // parent the root is itself a change.
 func (s *Snapshotter) leftOver(ctx context.Context, info pibroulez.Info) (map[string]string, error) {
 	changes := map[string]string{}

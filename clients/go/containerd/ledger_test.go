@@ -279,7 +279,7 @@ func TestCommitOverLimit(t *testing.T) {
 	}
 }
 
-// Has a commit come to no end after so many operations, in batches of two.
+// Leaves a commit unfinished after this many operations, in batches of two.
 func commitInPart(t *testing.T, s *Snapshotter, key string, most int) (done int) {
 	t.Helper()
 	info, err := s.store.Stat(ctx, s.namespaceOf(key), key)
@@ -307,8 +307,8 @@ func commitInPart(t *testing.T, s *Snapshotter, key string, most int) (done int)
 	return done
 }
 
-// What a commit that came to no end has left of a directory is made right by the next one, whatever has changed meanwhile:
-// after each of its operations, also where the next one comes to no end either.
+// What an unfinished commit has left of a directory is made right by the next one, whatever has changed meanwhile:
+// after each of its operations, also where the next one is left unfinished too.
 func TestCommitAfterPart(t *testing.T) {
 	requiresRoot(t)
 	s := newSnapshotter(t, rootInMemory(t))

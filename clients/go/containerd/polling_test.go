@@ -38,7 +38,7 @@ func polls() (snapshots, files, rounds int) {
 }
 
 const (
-	// How many rounds are asked of overlayfs too, one question after another: all of so many, and of more these.
+	// How many rounds are asked of overlayfs too, one question after another: up to the former all, of more the latter.
 	mostTimed, someTimed = 100, 20
 	// After how many parts of the further rounds memory and log are looked at.
 	parts = 20
@@ -152,7 +152,7 @@ func TestPolling(t *testing.T) {
 		2*count*rounds, count, ours, other, part("here", 10), part("overlayfs", 10), part("here", 99), part("overlayfs", 99))
 }
 
-// Asks for a usage and a status of each of these snapshots in so many rounds, by some callers at once.
+// Asks for a usage and a status of each of these snapshots in this many rounds, by some callers at once.
 func askMany(t *testing.T, s snapshots.Snapshotter, called context.Context, keys []string, inodes, rounds int) {
 	t.Helper()
 	var callers sync.WaitGroup

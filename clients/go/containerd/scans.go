@@ -232,7 +232,7 @@ func (s *scans) unknow(id uint64) {
 	s.unknowAlone(id)
 }
 
-// Does so where the mutex is had.
+// Does so with the mutex held.
 func (s *scans) unknowAlone(id uint64) {
 	if key, isKnown := s.keys[id]; isKnown && s.ids[key] == id {
 		delete(s.ids, key)
@@ -443,14 +443,14 @@ func (s *Snapshotter) isSettled(was before, wanted pibroulez.Usage) bool {
 		!s.scans.failing[was.info.ID]
 }
 
-// Has an active snapshot charged so much as far as the limit goes, and no more. What is charged then.
+// Has an active snapshot charged this much, as far as the limit goes, and no more. What is charged then.
 func (s *Snapshotter) chargeExactly(ctx context.Context, info pibroulez.Info, wanted pibroulez.Usage) (pibroulez.Usage, error) {
 	namespace := s.namespaceOf(info.Name)
 	charged, err := s.store.Usage(ctx, namespace, info.Name)
 	if err != nil {
 		return charged, err
 	}
-	// What a commit that came to no end has left in the layer is charged as long as it is there.
+	// What an unfinished commit has left in the layer is charged as long as it is there.
 	s.scans.mutex.Lock()
 	kept := s.scans.trimmed[info.ID]
 	s.scans.mutex.Unlock()
@@ -469,8 +469,8 @@ func (s *Snapshotter) chargeExactly(ctx context.Context, info pibroulez.Info, wa
 	return s.raise(ctx, info.Name, charged, wanted)
 }
 
-// Charges an active snapshot so much, or as much of it as its tenant has free. What is charged then. Where nothing is free
-// that is no call which the log would keep.
+// Charges an active snapshot this much, or as much of it as its tenant has free. What is charged then. Where nothing is
+// free it makes no call that the log would keep.
 func (s *Snapshotter) raise(ctx context.Context, key string, charged, wanted pibroulez.Usage) (pibroulez.Usage, error) {
 	namespace, none := s.namespaceOf(key), pibroulez.Usage{}
 	lacks := beyond(wanted, charged)

@@ -54,7 +54,7 @@ func labelOf(t *testing.T, s *Snapshotter, key string) string {
 	return info.Labels[OverLabel]
 }
 
-// A snapshotter with a tenant of so much.
+// A snapshotter with a tenant of this limit.
 func newWithTenant(t *testing.T, root string, limit pibroulez.Usage) *Snapshotter {
 	t.Helper()
 	s, err := New(ctx, Config{Program: program(), Root: root, Tenants: map[string]pibroulez.Usage{"a": limit}})
@@ -215,7 +215,7 @@ func TestUsageAfterPart(t *testing.T) {
 	}
 }
 
-// What a commit that came to no end has left in a layer stays charged, and is trimmed once.
+// What an unfinished commit has left in a layer stays charged, and is trimmed once.
 func TestUsageAfterPartOfCommit(t *testing.T) {
 	root := t.TempDir()
 	s := newSnapshotter(t, root)

@@ -58,8 +58,9 @@ type Config struct {
 	Each *pibroulez.Usage
 	// Others are namespaces of the store with which containerd has nothing to do: its own of these names share Namespace.
 	Others []string
-	// Charge makes a call that charges a namespace of the store so much more, as one that first gets a limit of a cluster
-	// for it, or is nil where the call is made as it is. The call may be made again where it was pibroulez.ErrOverLimit.
+	// Charge makes a call that charges a namespace of the store this much more, as one that first gets a limit of a
+	// cluster for it, or is nil where the call is made as it is. The call may be made again where it was
+	// pibroulez.ErrOverLimit.
 	Charge func(ctx context.Context, namespace string, more pibroulez.Usage, call func(context.Context) error) error
 	// The most entries of each round of the journal, or the store's default where it is 0.
 	journal uint64
@@ -135,7 +136,7 @@ func New(ctx context.Context, config Config) (*Snapshotter, error) {
 	return s, nil
 }
 
-// The store of a root, and what the root had of an earlier version before. A log of such a one is taken over.
+// The store of a root, and what the root had of an earlier version before. A log of such a version is taken over.
 func openStore(ctx context.Context, config Config, directories *directories, root string) (*pibroulez.Store, rootAge, error) {
 	age, err := ageOf(root)
 	if err != nil {
@@ -173,7 +174,7 @@ func OpenStore(ctx context.Context, program, root string, open func() (*pibroule
 	return openAged(ctx, program, root, age, open)
 }
 
-// Opens the store of a root that had this of an earlier version. A log of such a one is taken over.
+// Opens the store of a root that had this of an earlier version. A log of such a version is taken over.
 func openAged(ctx context.Context, program, root string, age rootAge, open func() (*pibroulez.Store, error)) (*pibroulez.Store, error) {
 	if path := filepath.Join(root, LogFile); age != ofThisVersion && isZeroed(path) {
 		return nil, &pibroulez.BadLog{Path: path, Line: 1, Words: "it begins with a zero"}

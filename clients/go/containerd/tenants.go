@@ -17,7 +17,7 @@ import (
 )
 
 // ReserveLabel is the label of a new active snapshot with BLOCKS/INODES that are charged for it at once, its root among them.
-// Without so much room it isn't made. Of a view, and of a commit, it charges nothing.
+// Without that much room it isn't made. Of a view, and of a commit, it charges nothing.
 const ReserveLabel = "containerd.io/snapshot/pibroulez.reserve"
 
 // The most of each quantity that a limit may have.

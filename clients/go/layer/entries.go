@@ -107,7 +107,7 @@ func read(archive *tar.Reader, bounds *Bounds, out map[string]int) (marks []stri
 	}
 }
 
-// An entry, and whether the store has things of its kind. Those that it hasn't are counted.
+// An entry, and whether the store has things of its kind. Those that it doesn't have are counted.
 func entryOf(header *tar.Header, archive io.Reader, bounds *Bounds, out map[string]int) (entry, bool, error) {
 	it := entry{path: clean(header.Name), mode: uint32(header.Mode) & modeBits, text: header.Linkname}
 	if err := bounds.take(&bounds.Entries, 1); err != nil {

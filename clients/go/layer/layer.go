@@ -71,7 +71,7 @@ func (b Bounds) orDefaults() *Bounds {
 	return &b
 }
 
-// So much of a bound is used.
+// Uses this much of a bound.
 func (b *Bounds) take(of *int, number int) error {
 	if *of -= number; *of < 0 {
 		return fmt.Errorf("%w: it has more than its bounds", ErrUnreadable)

@@ -55,7 +55,7 @@ var typed = []struct{ keys, want string }{
 	{"cl\tdr\tn1", "[cluster][drain][n1]"},
 	{"cl\tfor\ts --da\t", "[cluster][forget][s][--data-destroyed]"},
 	{"cl\tche\t--end\thttp://x", "[cluster][check][--endpoints][http://x]"},
-	// What the command hasn't stays as it was typed.
+	// What the command doesn't have stays as it was typed.
 	{"tree --tr\t", "[tree][--tr]"},
 	{"check x\t", "[check][x]"},
 	{"cl\tqu\tal\t", "[cluster][quota][al]"},

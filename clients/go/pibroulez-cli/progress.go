@@ -17,7 +17,7 @@ const clearLine = "\r\x1b[K"
 
 type progressKey struct{}
 
-// Takes note of so much that a command has read.
+// Takes note of how much a command has read.
 func hasRead(ctx context.Context, number int) {
 	if it, isTold := ctx.Value(progressKey{}).(*atomic.Uint64); isTold {
 		it.Add(uint64(number))

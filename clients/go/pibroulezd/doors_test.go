@@ -82,7 +82,7 @@ func TestLines(t *testing.T) {
 	}
 }
 
-// A daemon whose socket can't be had doesn't serve, and leaves what is in its place.
+// A daemon that can't get its socket doesn't serve, and leaves what is in its place.
 func TestNoSocket(t *testing.T) {
 	p := newPlace(t)
 	granted(t, os.WriteFile(p.path("lines"), []byte("kept"), 0o600))

@@ -98,7 +98,7 @@ class TooManyActives(Refused):
 
 
 class OverLimit(Refused):
-    """The namespace hasn't so much free. `free` is what it has.
+    """The namespace doesn't have that much free. `free` is what it has.
 
     `words` say why the cluster of a daemon has no room, and who has some; else they are empty.
     """

@@ -9,7 +9,7 @@ import (
 	"pibroulez.example/pibroulez/cluster/etcdtest"
 )
 
-// An etcd that takes clients with a certificate alone is asked by such a one, and by no other.
+// An etcd that takes clients with a certificate alone is asked by such a client, and by no other.
 func TestTLS(t *testing.T) {
 	config := etcdtest.StartTLS(t)
 	for _, it := range []struct {

@@ -33,8 +33,8 @@ const (
 	Settling
 )
 
-// MostSent is how many transactions of a store may still be applied at one time, at the most, and MostShards how many
-// shards a pool has.
+// MostSent is how many transactions of a store may still be applied at one time at most, and MostShards how many shards
+// a pool has.
 const (
 	MostSent   = 4
 	MostShards = 2
@@ -112,7 +112,7 @@ func (s *State) setGranted(to uint64, free Shards) {
 	s.Free = free
 }
 
-// Divided is what is free where so much is granted of a limit, divided among the shards.
+// Divided is what is free where this much is granted of a limit, divided among the shards.
 func (s *State) Divided(limit, granted uint64) (free Shards) {
 	left, _ := rules.Limited(limit, granted)
 	for i := range free[:s.Shards] {

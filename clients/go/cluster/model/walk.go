@@ -191,7 +191,7 @@ func (w *Walk) Bound(store string, to uint64) error {
 	})
 }
 
-// Charged: the store is charged so much now, by its log.
+// Charged: the store is charged this much now, by its log.
 func (w *Walk) Charged(store string, to uint64) error {
 	return w.at(store, func(it *walker, n *Node) error {
 		switch {

@@ -60,12 +60,12 @@ func Share(left, share uint64) uint64 {
 // Paid is what of an amount that is given back pays a debt. Only the rest of it is free.
 func Paid(debt, back uint64) uint64 { return least(debt, back) }
 
-// Limited is what is free, and what the debt is, where so much is granted and the tenant's limit is this.
+// Limited is what is free, and what the debt is, where this much is granted and the tenant's limit is this.
 func Limited(limit, granted uint64) (free, debt uint64) {
 	return minus(limit, granted), minus(granted, limit)
 }
 
-// Part is what the shard of a number has of what is divided among this number: each the same, but for one at the most.
+// Part is what the shard of a number has of what is divided among this number: each the same, but for one at most.
 func Part(free, shards, number uint64) uint64 {
 	part := free / shards
 	if number < free%shards {

@@ -11,7 +11,7 @@ import (
 	"pibroulez.example/pibroulez"
 )
 
-// An OverLimit is a charge for which no room was had.
+// An OverLimit is a charge for which no room was found.
 type OverLimit struct {
 	// Free is what the tenant has free, and Words say why that isn't enough.
 	Free  pibroulez.Usage

@@ -12,7 +12,7 @@ import (
 	"pibroulez.example/pibroulez"
 )
 
-// Gives a store so much more of a limit as a call needs, as a cluster does, and sees whether the call charges more.
+// Gives a store as much more of a limit as a call needs, as a cluster does, and sees whether the call charges more.
 type granter struct {
 	t     *testing.T
 	store *pibroulez.Store

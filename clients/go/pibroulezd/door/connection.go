@@ -248,7 +248,7 @@ func (c *connection) setReadDeadline(at time.Time) {
 	}
 }
 
-// Writes the answers in their order. Where one can't be had or written the connection ends, and the others are dropped.
+// Writes the answers in their order. Where one can't be got or written the connection ends, and the others are dropped.
 func (c *connection) write(cancel context.CancelFunc) {
 	output := bufio.NewWriterSize(deadlineWriter{c.socket, c.door.config.Patience}, writeBytes)
 	isBroken := false

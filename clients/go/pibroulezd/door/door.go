@@ -177,8 +177,8 @@ func (d *Door) leave(c *connection) {
 	}
 }
 
-// Close takes no more connections and no more lines, and waits until those that were read are answered, at the most for
-// the door's patience, in which the store answers and peers read.
+// Close takes no more connections and no more lines, and waits until those that were read are answered, at most for the
+// door's patience, in which the store answers and peers read.
 func (d *Door) Close() {
 	d.mutex.Lock()
 	isFirst := !d.isClosed

@@ -476,7 +476,7 @@ func TestFloods(t *testing.T) {
 	equal(t, k.ask(`{"do":"quota","ns":"x"}`), `{"error":"NoNamespace","from":"book","of":"ns"}`)
 }
 
-// A user may have so many connections, and another one that is more is told so and ended.
+// A user may have three connections here, and a fourth one is told so and ended.
 func TestTooManyConnections(t *testing.T) {
 	h := newHouse(t, func(c *Config) { c.Connections = 3 })
 	var open []*talk

@@ -9,7 +9,7 @@ import (
 	"pibroulez.example/pibroulez"
 )
 
-// How many refusals of one user are written at once at the most, and one more after each second.
+// How many refusals of one user are written at once at most, and one more after each second.
 const mostAtOnce = 20
 
 // How many users are remembered until all are forgotten, and how many bytes of each text are written.

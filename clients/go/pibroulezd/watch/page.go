@@ -15,7 +15,7 @@ import (
 	"pibroulez.example/pibroulez/told"
 )
 
-// How much a page has at the most: snapshots, entries of the journal, and characters of a name.
+// How much a page has at most: snapshots, entries of the journal, and characters of a name.
 const (
 	mostNodes   = 2000
 	mostEntries = 50
