@@ -5,3 +5,4 @@ pub mod Commits
 pub mod Changes
 pub mod Found
 pub mod Sweeps
+pub mod Saving

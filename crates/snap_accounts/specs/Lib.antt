@@ -6,3 +6,4 @@ pub mod Vacant
 pub mod Entries
 pub mod Changes
 pub mod Commits
+pub mod Saved

@@ -121,7 +121,10 @@ fn empty_layer(alloc: Global) -> Result<Shared, AllocError>
 }
 
 // The layers that a view shows whose ancestors have these.
-fn or_empty(alloc: Global, mut layers: Sequence<Shared>) -> Result<Sequence<Shared>, AllocError>
+pub(crate) fn or_empty(
+    alloc: Global,
+    mut layers: Sequence<Shared>,
+) -> Result<Sequence<Shared>, AllocError>
     ensures { IfOk result (λ shown. shown ≡ or_empty layers) }
 {
     if layers.is_empty() {

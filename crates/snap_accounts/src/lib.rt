@@ -14,6 +14,7 @@ mod commit;
 mod info;
 mod lease;
 mod prepare;
+mod saved;
 mod slots;
 mod spaces;
 mod sweep;

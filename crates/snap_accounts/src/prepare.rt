@@ -29,7 +29,7 @@ pub struct Vacancy {
 }
 
 // A root directory takes a block and an inode.
-fn one() -> Usage
+pub(crate) fn one() -> Usage
     ensures { result ≡ one }
 {
     Usage {

@@ -1,32 +1,66 @@
 // The next round of a book.
-ghost use Rattle.std.specs.Prelude.{◌≡◌, ◌≤◌, ◌+◌, ◌^◌, [], None, OnOk, OnErr};
+ghost use Rattle.std.specs.Prelude.{◌≡◌, ◌↔◌, ◌≤◌, ◌+◌, ◌^◌, [], None, IfErr, IfOk, IsErrOf, OnOk, OnErr, Ok, Err};
 ghost use Rattle.snap_call.specs.Records.{open_count, max_journal};
+ghost use Rattle.snap_call.specs.declared.refusal.Refusal.{Refusal};
+ghost use Rattle.snap_accounts.specs.Entries.{IsUnrecorded};
 ghost use Rattle.snap_book.specs.Round.{next_round, roll_answer, round_answer};
 
 use crate::book::Book;
-use snap_call::Refusal;
+use crate::journal::Journal;
+use snap_accounts::Accounts;
 use snap_call::limits::{MAX_ENTRY, MAX_JOURNAL};
+use snap_call::{Refusal, State};
 use snap_ledger::StoreName;
+use std::alloc::Global;
+
+// Whether a round of at most so many entries may begin at the state.
+fn test_round(state: &State, journal: u64) -> Result<(), Refusal>
+    ensures answer { result ≡ round_answer state.now journal }
+    ensures limit { OnOk result (journal ≤ max_journal) }
+    ensures numbers { OnOk result (state.now.entries + journal ≤ 2 ^ 62) }
+{
+    if journal > MAX_JOURNAL {
+        return Err(Refusal::BadArgument);
+    }
+    let entries = state.entries;
+    if entries > MAX_ENTRY || journal > MAX_ENTRY - entries {
+        return Err(Refusal::NumbersSpent);
+    }
+    Ok(())
+}
 
 impl<N: StoreName> Book<N> {
-    // Whether a round of at most `journal` entries may follow.
-    fn test_round(&self, journal: u64) -> Result<(), Refusal>
-        ensures answer { result ≡ round_answer self.now.state journal }
-        ensures limit { OnOk result (journal ≤ max_journal) }
-        ensures numbers { OnOk result (self.now.state.entries + journal ≤ 2 ^ 62) }
+    /// A book whose round begins at the state of these accounts: its journal is empty and has at most so many
+    /// entries, and sessions are counted from 0. Snapshots may be open, as in [`Book::roll`], in their writers'
+    /// hands.
+    ///
+    /// The refusals of [`Book::roll`], and then `OutOfMemory`; the accounts are lost then. Takes memory for a place
+    /// for each slot, and for an entry for the end of each open snapshot and one more. The cost grows with the
+    /// numbers of slots and of records.
+    pub fn begin(alloc: Global, accounts: Accounts<N>, journal: u64) -> Result<Book<N>, Refusal>
+        ensures began { IfOk result (λ b. b ≡ record { state = next_round accounts; journal = []; opening = next_round accounts; limit = journal; copy = None }) }
+        ensures answer { OnOk result (roll_answer accounts journal ≡ Ok tt) }
+        ensures refused { (why : Refusal) → roll_answer accounts journal ≡ Err why → IsErrOf result why }
+        ensures err { roll_answer accounts journal ≡ Ok tt → IfErr result IsUnrecorded }
     {
-        if journal > MAX_JOURNAL {
-            return Err(Refusal::BadArgument);
+        test_round(accounts.state(), journal)?;
+        if journal <= accounts.open_slots() {
+            return Err(Refusal::JournalFull);
         }
-        if self.accounts.state().entries + journal > MAX_ENTRY {
-            return Err(Refusal::NumbersSpent);
-        }
-        Ok(())
+        let mut accounts = accounts;
+        accounts.end_sessions();
+        let mut entries = Journal::new(alloc, accounts.state(), journal)?;
+        entries.admit(accounts.open_slots(), 1)?;
+        Ok(Book {
+            alloc,
+            accounts,
+            journal: entries,
+        })
     }
 
-    /// Begins the next round, whose journal has at most `journal` entries: it is empty, and sessions are counted from 0
-    /// again. All snapshots stay, and their records and charges; the first entry has the number after the last one's.
-    /// No snapshot may be open.
+    /// Begins the next round, whose journal has at most so many entries: it is empty, and sessions are
+    /// counted from 0 again. All snapshots stay, and their records and charges; the first entry has the
+    /// number after the last one's. No snapshot may be open.
     ///
     /// `BadArgument` where the journal would be above 1,048,576 entries, then `NumbersSpent` where the
     /// numbers of its entries could pass 2^62; the book is then as it was. No entry is made. Takes no
@@ -37,7 +71,7 @@ impl<N: StoreName> Book<N> {
         ensures began { OnOk result (self.new ≡ record { state = next_round self.old.state; journal = []; opening = next_round self.old.state; limit = journal; copy = None }) }
         ensures same { OnErr result (self.new ≡ self.old) }
     {
-        self.test_round(journal)?;
+        test_round(self.accounts.state(), journal)?;
         self.accounts.end_sessions();
         self.journal.begin(self.accounts.state(), journal);
         Ok(())
@@ -47,14 +81,14 @@ impl<N: StoreName> Book<N> {
     /// their writers' hands, with their ids and shares. It needs no place in the journal of the round that ends.
     ///
     /// `BadArgument` and `NumbersSpent` as for [`Book::next_round`], then `JournalFull` where the new journal
-    /// has no room for an entry for the end of each open snapshot and one more; the book is then as it was. No entry is
+    /// has not an entry for the end of each open snapshot and one more; the book is then as it was. No entry is
     /// made. Takes no memory. The cost is that of dropping the entries of the round that ends.
     pub fn roll(&mut self, journal: u64) -> Result<(), Refusal>
         ensures answer { result ≡ roll_answer self.old.state journal }
         ensures began { OnOk result (self.new ≡ record { state = next_round self.old.state; journal = []; opening = next_round self.old.state; limit = journal; copy = None }) }
         ensures same { OnErr result (self.new ≡ self.old) }
     {
-        self.test_round(journal)?;
+        test_round(self.accounts.state(), journal)?;
         if journal <= self.accounts.open_slots() {
             return Err(Refusal::JournalFull);
         }

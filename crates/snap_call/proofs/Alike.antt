@@ -1,10 +1,10 @@
 -- Labels and the number of the last change are seen by nothing but an info: what is the same of two lists that differ in these alone.
-use Rattle.std.proofs.Common.{◌≡◌, ℕ, zero, suc, ◌+◌, Bool, true, false, cond, List, [], ◌∷◌, map, Option, Some, None, IsSome, refl, sym, ap, ◌∙◌}
+use Rattle.std.proofs.Common.{◌≡◌, ℕ, zero, suc, ◌+◌, ◌<◌, Bool, true, false, cond, List, [], ◌∷◌, map, Option, Some, None, IsSome, refl, sym, ap, ◌∙◌, subst}
 use Rattle.std.specs.List.{AllByRecursion, cons_option, find}
 use Rattle.std.specs.List.Sorted.{IsStrictlySortedBy}
 use Rattle.std.specs.Option.{option_map, is_some}
 use Rattle.std.specs.declared.cmp.Ordering.TheVariants.{Less}
-use Rattle.std.specs.Prelude.{if◌then◌else◌, option_and_then, unwrap_or}
+use Rattle.std.specs.Prelude.{IsSomeAnd, if◌then◌else◌, option_and_then, unwrap_or}
 use Rattle.snap_ledger.specs.States.{plus}
 use Rattle.snap_lease.specs.Lease.{Lease}
 use Rattle.snap_record.specs.Labels.{Bytes, Label}
@@ -13,8 +13,9 @@ use Rattle.snap_call.specs.declared.config.Namespace.{Namespace}
 use Rattle.snap_call.specs.Records.{record_cmp, is_named, record_at, is_slot, active_at, is_committed, committed_at, charge_of, charge_if, charge_at, open_count, with_labels, relabelled, AllPairwise}
 use Rattle.snap_call.specs.State.{place_of, chain_from, is_base, ancestors, ids_of, layer_of, layers_of, most_ancestors}
 use Rattle.snap_call.proofs.Lists.{all-map, some_same, none_some, if_committed, active_one, open_count-cons}
-use Rattle.snap_call.proofs.Chains.{HasParent, NamesStand, chain, chain_over}
+use Rattle.snap_call.proofs.Chains.{HasParent, IsRising, NamesStand, chain, chain_over}
 use Rattle.snap_call.proofs.Sums.{part_of}
+use Rattle.snap_call.specs.Good.{HasOlderParent}
 use Rattle.snap_call.specs.Promised.{IsGuarding}
 
 -- a record without its labels and the number of its last change
@@ -174,6 +175,21 @@ module _ (rs ts : List Record) (alike : AreAlike rs ts) where
 
   pub alike-HasParent : (r : Record) → HasParent rs r → HasParent ts r
   alike-HasParent r h = alike-is_base r.namespace r.parent ∙ h
+
+  older_parent : (place : ℕ) (p : Bytes) (id : ℕ) → HasOlderParent rs place p id → HasOlderParent ts place p id
+  older_parent place [] id h = h
+  older_parent place (b ∷ bs) id h = by (committed_at place (b ∷ bs) rs) (committed_at place (b ∷ bs) ts) same h
+    where
+      same : option_map bare (committed_at place (b ∷ bs) ts) ≡ option_map bare (committed_at place (b ∷ bs) rs)
+      same = sym (committed_at-bare place (b ∷ bs) ts) ∙ ap (committed_at place (b ∷ bs)) (sym alike) ∙ committed_at-bare place (b ∷ bs) rs
+
+      by : (o q : Option Record) → option_map bare q ≡ option_map bare o → IsSomeAnd o (λ r. r.id < id) → IsSomeAnd q (λ r. r.id < id)
+      by None q e below = absurd below
+      by (Some r) None e below = absurd (none_some (bare r) e)
+      by (Some r) (Some t) e below = subst (λ (x : Record). x.id < id) (sym (some_same (bare t) (bare r) e)) below
+
+  pub alike-IsRising : (r : Record) → IsRising rs r → IsRising ts r
+  alike-IsRising r h = older_parent r.namespace r.parent r.id h
 
   alike_names : (o : Option ℕ) (names : List Bytes) → NamesStand rs o names → NamesStand ts o names
   alike_names None names h = h

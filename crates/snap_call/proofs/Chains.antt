@@ -1,5 +1,5 @@
 -- What stands on committed records stands while they do: parents, leases and chains.
-use Rattle.std.proofs.Common.{◌≡◌, ℕ, zero, suc, ◌≤◌, Bool, true, false, true≢false, List, [], ◌∷◌, Option, Some, None, IsSome, refl, sym, ap, ◌∙◌, subst, arith}
+use Rattle.std.proofs.Common.{◌≡◌, ℕ, zero, suc, ◌<◌, ◌≤◌, Bool, true, false, true≢false, List, [], ◌∷◌, Option, Some, None, IsSome, refl, sym, ap, ◌∙◌, subst, arith}
 use Rattle.std.specs.List.{AllByRecursion, list_any}
 use Rattle.std.specs.Option.{option_map, is_some}
 use Rattle.std.specs.Prelude.{bytes_eq, ◌==◌, ◌&&◌, option_and_then, unwrap_or, IsSomeAnd}
@@ -12,11 +12,16 @@ use Rattle.snap_record.specs.declared.record.Content.TheVariants.{View, Active, 
 use Rattle.snap_record.specs.declared.record.Record.{Record}
 use Rattle.snap_call.specs.Records.{is_named, record_at, has_key, has_slot, is_slot, is_child, has_children, is_committed, committed_at, with_record, without_slot, without_key, recharged}
 use Rattle.snap_call.specs.State.{chain_from, ancestors, is_base, is_too_deep, most_ancestors}
+use Rattle.snap_call.specs.Good.{HasOlderParent}
 use Rattle.snap_call.proofs.Lists.{all-map, some_same, none_some, committed-parts, committed-from, committed_at-is_named, find-any, find-passes, find-all, none-passes, all-both, find-with_record, find-without, find-recharged}
 
 -- the record's parent is none, or a committed record
 abbrev pub HasParent : List Record → Record → Type 0
 HasParent rs r = is_base r.namespace r.parent rs ≡ true
+
+-- the record's id is above its parent's
+abbrev pub IsRising : List Record → Record → Type 0
+IsRising rs r = HasOlderParent rs r.namespace r.parent r.id
 
 -- the names are those of committed records of the namespace, if there is one
 abbrev pub NamesStand : List Record → Option ℕ → List Bytes → Type 0
@@ -151,6 +156,17 @@ module _ (P : ℕ → Bytes → Type 0) (rs ts : List Record) (keeps : KeepsFor 
 
   pub keeps-HasParent : (r : Record) → OnParent P r.namespace r.parent → HasParent rs r → HasParent ts r
   keeps-HasParent r m h = keeps_parent r.namespace r.parent m h
+
+  older_parent : (place : ℕ) (p : Bytes) (id : ℕ) → OnParent P place p → HasOlderParent rs place p id → HasOlderParent ts place p id
+  older_parent place [] id m h = h
+  older_parent place (b ∷ bs) id m h = by (committed_at place (b ∷ bs) rs) refl h
+    where
+      by : (o : Option Record) → committed_at place (b ∷ bs) rs ≡ o → IsSomeAnd o (λ r. r.id < id) → HasOlderParent ts place (b ∷ bs) id
+      by None e below = absurd below
+      by (Some r) e below = subst (λ (o : Option Record). IsSomeAnd o (λ t. t.id < id)) (sym (keeps.same place (b ∷ bs) r m e)) below
+
+  pub keeps-IsRising : (r : Record) → OnParent P r.namespace r.parent → IsRising rs r → IsRising ts r
+  keeps-IsRising r m h = older_parent r.namespace r.parent r.id m h
 
   -- the names of a lease, where all are in the set
   pub keeps-NamesStand : (o : Option ℕ) (names : List Bytes) → ((place : ℕ) → o ≡ Some place → AllByRecursion (P place) names) → NamesStand rs o names → NamesStand ts o names

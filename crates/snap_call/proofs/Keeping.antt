@@ -2,7 +2,7 @@
 use Rattle.std.proofs.Common.{◌≡◌, ◌≢◌, ℕ, ◌+◌, ◌<◌, ◌≤◌, Bool, true, false, true≢false, eqb, List, [], ◌∷◌, length, Option, Some, None, IsSome, eq-eqb, refl, sym, ap, ◌∙◌, subst, inl, inr, arith}
 use Rattle.std.specs.List.{AllByRecursion}
 use Rattle.std.specs.Option.{is_some}
-use Rattle.std.specs.Prelude.{◌&&◌, ◌==◌, bytes_eq, nat_le, not}
+use Rattle.std.specs.Prelude.{IsSomeAnd, ◌&&◌, ◌==◌, bytes_eq, nat_le, not}
 use Rattle.std.proofs.lemmas.Bool.{and_parts, eqb-true, false_from_ne_true, cases_eq, leb-true}
 use Rattle.std.proofs.lemmas.Slice.Eq.{bytes_eq-Decides}
 use Rattle.snap_layer.specs.Tree.{Tree}
@@ -21,15 +21,15 @@ use Rattle.snap_call.specs.declared.config.Namespace.{Namespace}
 use Rattle.snap_call.specs.declared.state.State.{State}
 use Rattle.snap_call.specs.Records.{has_key, has_children, has_slot, is_named, is_slot, record_at, committed_at, active_at, charge_of, with_record, without_slot, without_key, recharged, relabelled, committed_as, HasLowSlot, AreApart}
 use Rattle.snap_call.specs.State.{place_of, name_at, limit_at, is_taken_at, is_base, is_too_deep, ancestors, layers_of, most_ancestors, or_empty, shown_layers}
-use Rattle.snap_call.specs.Good.{IsShown, Good}
+use Rattle.snap_call.specs.Good.{HasOlderParent, IsShown, Good}
 use Rattle.snap_call.specs.Step.{counted, one, prepared, committed, leases_after, added, viewed, removed_at, new_record}
 use Rattle.snap_call.proofs.Leasing.{name_at-place, place_of-name_at, place_of-taken, taken-below, guarding-with_name}
 use Rattle.snap_call.proofs.Lengths.{length-with_record, length-without, length-without_found, length-recharged, length-relabelled}
-use Rattle.snap_call.proofs.Lists.{all-map, all-both, committed-from, find-with_record_own, find-none, none-passes, record_at-is_named, same_slot, active_at-all, all-with_record, pairwise-with_record, all-without, pairwise-without, all-beside, all-recharged, pairwise-recharged}
+use Rattle.snap_call.proofs.Lists.{all-map, all-both, committed-from, committed_at-record_at, find-with_record_own, find-none, none-passes, record_at-all, record_at-is_named, same_slot, active_at-all, all-with_record, pairwise-with_record, all-without, pairwise-without, all-beside, all-recharged, pairwise-recharged}
 use Rattle.snap_call.proofs.InOrder.{sorted-with_record, sorted-without, sorted-recharged, has_key-without}
-use Rattle.snap_call.proofs.Chains.{HasParent, chain, Keeps, KeepsFor, Every, every, OnParent, AreOn, all_on, IsOther, Keeps-after, Keeps-with_record, Keeps-without_slot, Keeps-recharged, on_other, keeps-without_key, keeps-HasParent, keeps-NamesStand, keeps-some_chain, keeps-ancestors, chain-found, some-within, all-within}
+use Rattle.snap_call.proofs.Chains.{HasParent, IsRising, chain, Keeps, KeepsFor, Every, every, OnParent, AreOn, all_on, IsOther, Keeps-after, Keeps-with_record, Keeps-without_slot, Keeps-recharged, on_other, keeps-without_key, keeps-HasParent, keeps-IsRising, keeps-NamesStand, keeps-some_chain, keeps-ancestors, chain-found, some-within, all-within}
 use Rattle.snap_call.proofs.Sums.{charge_with, charge_of-with_record_own, charge_of-with_record_other, charge_of-covers, charge_of-without_own, charge_of-without_other, charge_of-recharged_own, charge_of-recharged_other, charge_of-committed_own, charge_of-committed_other}
-use Rattle.snap_call.proofs.Alike.{AreAlike, bare-relabelled, all-relabelled, pairwise-relabelled, sorted-relabelled, alike-HasParent, alike-IsGuarding, alike-charge_of, alike-layers, alike-some_chain}
+use Rattle.snap_call.proofs.Alike.{AreAlike, bare-relabelled, all-relabelled, pairwise-relabelled, sorted-relabelled, alike-HasParent, alike-IsGuarding, alike-IsRising, alike-charge_of, alike-layers, alike-some_chain}
 use Rattle.snap_call.specs.Promised.{IsGuarding, IsUsageCounted}
 
 -- ---- a limit
@@ -85,6 +85,12 @@ module _ (P : ℕ → Bytes → Type 0) (rs ts : List Record) (keeps : KeepsFor 
       all-map (λ r. OnParent P r.namespace r.parent × HasParent rs r) (HasParent ts) (λ r h. keeps-HasParent P rs ts keeps r h.0 h.1)
       us (all-both (λ r. OnParent P r.namespace r.parent) (HasParent rs) us on all)
 
+  -- ids rise from parents to children
+  pub rising_on : (us : List Record) → AreOn P us → AllByRecursion (IsRising rs) us → AllByRecursion (IsRising ts) us
+  rising_on us on all =
+      all-map (λ r. OnParent P r.namespace r.parent × IsRising rs r) (IsRising ts) (λ r h. keeps-IsRising P rs ts keeps r h.0 h.1)
+      us (all-both (λ r. OnParent P r.namespace r.parent) (IsRising rs) us on all)
+
   pub chains_on : (most : ℕ) (us : List Record) → AreOn P us → AllByRecursion (λ r. IsSome (chain most rs r)) us → AllByRecursion (λ r. IsSome (chain most ts r)) us
   chains_on most us on all =
       all-map (λ r. OnParent P r.namespace r.parent × IsSome (chain most rs r)) (λ r. IsSome (chain most ts r)) (λ r h. keeps-some_chain P rs ts keeps most r h.0 h.1)
@@ -118,6 +124,9 @@ every_lease ns (l ∷ ls) = (λ place e. every_name place l.names, every_lease n
 module _ (ns : List Namespace) (rs ts : List Record) (keeps : Keeps rs ts) where
   pub stand_parents : (us : List Record) → AllByRecursion (HasParent rs) us → AllByRecursion (HasParent ts) us
   stand_parents us all = parents_on Every rs ts (every rs ts keeps) us (all_on us) all
+
+  pub stand_rising : (us : List Record) → AllByRecursion (IsRising rs) us → AllByRecursion (IsRising ts) us
+  stand_rising us all = rising_on Every rs ts (every rs ts keeps) us (all_on us) all
 
   pub stand_leases : (ls : List Lease) → AllByRecursion (IsGuarding ns rs) ls → AllByRecursion (IsGuarding ns ts) ls
   stand_leases ls all = leases_on Every rs ts (every rs ts keeps) ns ls (every_lease ns ls) all
@@ -165,6 +174,7 @@ good_counters s m n good = record {
   sorted = good.sorted;
   ids = good.ids;
   numbered = good.numbered;
+  rising = good.rising;
   fewer = good.fewer;
   few_slots = good.few_slots;
   slots = good.slots;
@@ -179,12 +189,27 @@ good_counted s good = good_counters s s.sessions (s.entries + 1) good
 
 -- ---- a new snapshot
 
--- of a free key, on a base that is there, with the next id, in no slot of another, and within the limit
-pub good_added : (s : State) (r : Record) → Good s → is_taken_at r.namespace s.namespaces ≡ true → has_key r.namespace r.key s.records ≡ false
-    → is_base r.namespace r.parent s.records ≡ true → is_too_deep s.ancestors r.namespace r.parent s.records ≡ false → r.id ≡ s.next_id → IsUsageCounted r.content → HasLowSlot s.slots r.content → IsShown s.records r.namespace r.parent r.content
+-- a base's id is below those from the next one on
+base_below : (s : State) → Good s → (place : ℕ) (p : Bytes) (id : ℕ) → is_base place p s.records ≡ true → s.next_id ≤ id → HasOlderParent s.records place p id
+base_below s good place [] id base high = tt
+base_below s good place (b ∷ bs) id base high = by (committed_at place (b ∷ bs) s.records) refl base
+  where
+    by : (o : Option Record) → committed_at place (b ∷ bs) s.records ≡ o → IsSome o → IsSomeAnd o (λ r. r.id < id)
+    by None e some = absurd (true≢false (sym some))
+    by (Some r) e some =
+        let low = record_at-all (λ t. t.id < s.next_id) place (b ∷ bs) s.records r (committed_at-record_at place (b ∷ bs) s.records r e) good.numbered in
+        omega (arith, low, high)
+
+-- the state with a record more, with this next id and so many entries
+abbrev pub joined : State → Record → ℕ → ℕ → State
+joined s r next entries = record s { records = with_record r s.records; next_id = next; entries = entries }
+
+-- of a free key, on a base that is there, with an id from the next one on, in no slot of another, and within the limit
+pub good_joined : (s : State) (r : Record) (next entries : ℕ) → Good s → is_taken_at r.namespace s.namespaces ≡ true → has_key r.namespace r.key s.records ≡ false
+    → is_base r.namespace r.parent s.records ≡ true → is_too_deep s.ancestors r.namespace r.parent s.records ≡ false → s.next_id ≤ r.id → r.id < next → IsUsageCounted r.content → HasLowSlot s.slots r.content → IsShown s.records r.namespace r.parent r.content
     → AllByRecursion (AreApart r) s.records → AllByRecursion (λ t. AreApart t r) s.records
-    → Covers (limit_at r.namespace s.namespaces) (plus (charge_of r.namespace s.records) (usage_of r.content)) → Good (added s r)
-good_added s r good taken free base deep next count few shown apart beside room = record {
+    → Covers (limit_at r.namespace s.namespaces) (plus (charge_of r.namespace s.records) (usage_of r.content)) → Good (joined s r next entries)
+good_joined s r next entries good taken free base deep high below count few shown apart beside room = record {
   root = good.root;
   promised = record {
     parents = stand_parents ns rs ts keeps ts (all-with_record r (HasParent rs) rs base good.promised.parents);
@@ -200,11 +225,12 @@ good_added s r good taken free base deep next count few shown apart beside room 
   placed = all-with_record r (λ t. is_taken_at t.namespace ns ≡ true) rs taken good.placed;
   sorted = sorted-with_record r rs free good.sorted;
   ids = pairwise-with_record r (λ t u. t.id ≢ u.id) rs
-      (all-map (λ t. t.id < s.next_id) (λ t. r.id ≢ t.id) (λ t h. omega (arith, h, next)) rs good.numbered)
-      (all-map (λ t. t.id < s.next_id) (λ t. t.id ≢ r.id) (λ t h. omega (arith, h, next)) rs good.numbered)
+      (all-map (λ t. t.id < s.next_id) (λ t. r.id ≢ t.id) (λ t h. omega (arith, h, high)) rs good.numbered)
+      (all-map (λ t. t.id < s.next_id) (λ t. t.id ≢ r.id) (λ t h. omega (arith, h, high)) rs good.numbered)
       good.ids;
-  numbered = all-with_record r (λ t. t.id < s.next_id + 1) rs (omega (arith, next)) (all-map (λ t. t.id < s.next_id) (λ t. t.id < s.next_id + 1) (λ t h. omega (arith, h)) rs good.numbered);
-  fewer = omega (arith, length-with_record r rs, good.fewer);
+  numbered = all-with_record r (λ t. t.id < next) rs below (all-map (λ t. t.id < s.next_id) (λ t. t.id < next) (λ t h. omega (arith, h, high, below)) rs good.numbered);
+  rising = stand_rising ns rs ts keeps ts (all-with_record r (IsRising rs) rs (base_below s good r.namespace r.parent r.id base high) good.rising);
+  fewer = omega (arith, length-with_record r rs, good.fewer, high, below);
   few_slots = good.few_slots;
   slots = pairwise-with_record r AreApart rs apart beside good.slots;
   open_slots = all-with_record r (λ t. HasLowSlot s.slots t.content) rs few good.open_slots;
@@ -227,6 +253,14 @@ good_added s r good taken free base deep next count few shown apart beside room 
 
     chained : AllByRecursion (λ t. IsSome (chain s.ancestors rs t)) ts
     chained = all-with_record r (λ t. IsSome (chain s.ancestors rs t)) rs (chain-found s.ancestors rs r.namespace r.parent deep) good.promised.chains
+
+-- with the next id
+pub good_added : (s : State) (r : Record) → Good s → is_taken_at r.namespace s.namespaces ≡ true → has_key r.namespace r.key s.records ≡ false
+    → is_base r.namespace r.parent s.records ≡ true → is_too_deep s.ancestors r.namespace r.parent s.records ≡ false → r.id ≡ s.next_id → IsUsageCounted r.content → HasLowSlot s.slots r.content → IsShown s.records r.namespace r.parent r.content
+    → AllByRecursion (AreApart r) s.records → AllByRecursion (λ t. AreApart t r) s.records
+    → Covers (limit_at r.namespace s.namespaces) (plus (charge_of r.namespace s.records) (usage_of r.content)) → Good (added s r)
+good_added s r good taken free base deep next count few shown apart beside room =
+    good_joined s r (s.next_id + 1) (s.entries + 1) good taken free base deep (omega (arith, next)) (omega (arith, next)) count few shown apart beside room
 
 pub good_prepared : (s : State) (place : ℕ) (key parent : Bytes) (labels : List Label) (slot : ℕ) → Good s → is_taken_at place s.namespaces ≡ true → has_key place key s.records ≡ false
     → is_base place parent s.records ≡ true → is_too_deep s.ancestors place parent s.records ≡ false → slot < s.slots → active_at slot s.records ≡ None
@@ -287,6 +321,7 @@ module _ (slot : ℕ) (to : Usage) where
     sorted = sorted-recharged slot to rs good.sorted;
     ids = pairwise-recharged slot to (λ t u. t.id ≢ u.id) rs (λ t u is h. h) (λ t u is h. h) good.ids;
     numbered = all-recharged slot to (λ t. t.id < s.next_id) rs (λ t is h. h) good.numbered;
+    rising = stand_rising ns rs ts keeps ts (all-recharged slot to (IsRising rs) rs (λ t is h. h) good.rising);
     fewer = omega (arith, length-recharged slot to rs, good.fewer);
     few_slots = good.few_slots;
     slots = pairwise-recharged slot to AreApart rs
@@ -343,6 +378,7 @@ good_discarded s slot r good e = record {
   sorted = sorted-without (is_slot slot) rs good.sorted;
   ids = pairwise-without (is_slot slot) (λ t u. t.id ≢ u.id) rs good.ids;
   numbered = all-without (is_slot slot) (λ t. t.id < s.next_id) rs good.numbered;
+  rising = stand_rising ns rs ts keeps ts (all-without (is_slot slot) (IsRising rs) rs good.rising);
   fewer = omega (arith, length-without (is_slot slot) rs, good.fewer);
   few_slots = good.few_slots;
   slots = pairwise-without (is_slot slot) AreApart rs good.slots;
@@ -435,6 +471,7 @@ module _ (s : State) (place : ℕ) (key : Bytes) (r : Record) (good : Good s) (e
     sorted = sorted-without p rs good.sorted;
     ids = pairwise-without p (λ t u. t.id ≢ u.id) rs good.ids;
     numbered = all-without p (λ t. t.id < s.next_id) rs good.numbered;
+    rising = rising_on P rs ts keeps ts on (all-without p (IsRising rs) rs good.rising);
     fewer = omega (arith, length-without p rs, good.fewer);
     few_slots = good.few_slots;
     slots = pairwise-without p AreApart rs good.slots;
@@ -497,6 +534,7 @@ good_committed s slot name lease labels layer r good e free less = record {
       (all-beside (is_slot slot) (λ t u. t.id ≢ u.id) (λ t. t.id ≢ r.id) rs r e (λ t h same. h (sym same)) (λ t h. h) good.ids)
       (pairwise-without (is_slot slot) (λ t u. t.id ≢ u.id) rs good.ids);
   numbered = all-with_record c (λ t. t.id < s.next_id) us (active_at-all (λ t. t.id < s.next_id) slot rs r e good.numbered) (all-without (is_slot slot) (λ t. t.id < s.next_id) rs good.numbered);
+  rising = stand_rising ns rs ts keeps ts (all-with_record c (IsRising rs) us (active_at-all (IsRising rs) slot rs r e good.rising) (all-without (is_slot slot) (IsRising rs) rs good.rising));
   fewer = omega (arith, length-with_record c us, length-without_found (is_slot slot) rs r e, good.fewer);
   few_slots = good.few_slots;
   slots = pairwise-with_record c AreApart us
@@ -580,6 +618,7 @@ good_relabelled s place key labels good = record {
   sorted = sorted-relabelled place key labels n rs good.sorted;
   ids = pairwise-relabelled place key labels n (λ t u. t.id ≢ u.id) rs (λ t u h. h) (λ t u h. h) good.ids;
   numbered = all-relabelled place key labels n (λ t. t.id < s.next_id) rs (λ t h. h) good.numbered;
+  rising = all-relabelled place key labels n (IsRising ts) rs (λ t h. h) (all-map (IsRising rs) (IsRising ts) (alike-IsRising rs ts alike) rs good.rising);
   fewer = omega (arith, length-relabelled place key labels n rs, good.fewer);
   few_slots = good.few_slots;
   slots = pairwise-relabelled place key labels n AreApart rs (λ t u h. h) (λ t u h. h) good.slots;

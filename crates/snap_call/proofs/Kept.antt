@@ -321,6 +321,7 @@ good_opening c e = record {
   sorted = tt;
   ids = tt;
   numbered = tt;
+  rising = tt;
   fewer = first_given c e;
   few_slots = slots_given c e;
   slots = tt;

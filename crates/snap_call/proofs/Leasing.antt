@@ -196,6 +196,7 @@ module _ (limit : Usage) where
     sorted = good.sorted;
     ids = good.ids;
     numbered = good.numbered;
+    rising = good.rising;
     fewer = good.fewer;
     few_slots = good.few_slots;
     slots = good.slots;
@@ -225,6 +226,7 @@ good_leasing s ls good leased once = record {
   sorted = good.sorted;
   ids = good.ids;
   numbered = good.numbered;
+  rising = good.rising;
   fewer = good.fewer;
   few_slots = good.few_slots;
   slots = good.slots;

@@ -14,6 +14,7 @@ pub mod Places
 mod CodeLemmas
 mod Searches
 mod Ascending
+mod Own
 mod Marks
 pub mod Gathered
 mod Equal
@@ -35,3 +36,4 @@ pub mod Replaying
 pub mod AsMany
 pub mod Totals
 mod Named
+pub mod Saving

@@ -8,6 +8,7 @@ use Rattle.std.proofs.lemmas.Option.{get_or_from_slice_get, slice_get_within}
 use Rattle.std.proofs.lemmas.Slice.Eq.{bytes_eq-Decides}
 use Rattle.std.specs.List.{AllByRecursion, find, filter, list_any, position_from, slice_get}
 use Rattle.std.specs.List.Sorted.{IsStrictlySortedBy}
+use Rattle.std.proofs.lemmas.List.Kept.{IsStrictlySortedBy-filter}
 use Rattle.std.specs.Option.{option_map}
 use Rattle.std.specs.Prelude.{bytes_eq, ◌==◌, ◌&&◌, ◌||◌, not, cond, option_and_then, unwrap_or, if◌then◌else◌}
 use Rattle.snap_lease.specs.Leases.{is_guarded_at}
@@ -26,6 +27,7 @@ use Rattle.snap_call.proofs.Chains.{chain_over}
 use Rattle.snap_call.proofs.Keeping.{good_chains}
 use Rattle.snap_call.proofs.Searches.{named_once}
 use Rattle.snap_call.proofs.Parts.{is_ancestor}
+use Rattle.snap_call.proofs.Own.{own, filter-own, chains-own, reached-own}
 
 -- ---- items of a list
 
@@ -258,31 +260,46 @@ module _ (s : State) (namespace : Bytes) (place moment : ℕ) where
   abbrev is_used : Record → Bool
   is_used t = (t.namespace == place) && is_in_use s namespace moment t
 
+  -- the namespace's records, where their parents stand among them, and which are in use
+  abbrev owned : List Record
+  owned = own place s.records
+
   abbrev parents_of : List (Option ℕ)
-  parents_of = map (parent_place place s.records) s.records
+  parents_of = map (parent_place place owned) owned
 
   abbrev used_of : List Bool
-  used_of = map is_used s.records
+  used_of = map is_used owned
 
-  marked-swept : Good s → (marks : List Bool) → IsSweepSet parents_of used_of marks → marked place s.records marks ≡ swept s namespace place moment
-  marked-swept good marks set = marked-filter place (is_swept s namespace place moment) s.records marks (set.places ∙ length-map s.records (parent_place place s.records)) law
+  marked-swept : Good s → (marks : List Bool) → IsSweepSet parents_of used_of marks → marked place owned marks ≡ swept s namespace place moment
+  marked-swept good marks set =
+      marked-filter place (is_swept s namespace place moment) owned marks (set.places ∙ length-map owned (parent_place place owned)) law
+      ∙ filter-own place (is_swept s namespace place moment) (λ r is. ap (λ b. b && is_committed r.content && not (is_reached s namespace place moment r.key)) is) s.records
     where
-      law : (k : ℕ) (r : Record) (b : Bool) → slice_get s.records k ≡ Some r → slice_get marks k ≡ Some b → ((r.namespace == place) && b) ≡ is_swept s namespace place moment r
+      in_order : IsStrictlySortedBy record_cmp owned
+      in_order = IsStrictlySortedBy-filter record_cmp (λ r. r.namespace == place) s.records good.sorted
+
+      in_chains : AllByRecursion (λ r. IsSome (chain_from most_ancestors owned r.namespace r.parent)) owned
+      in_chains = chains-own place s.records s.records (good_chains s good)
+
+      law : (k : ℕ) (r : Record) (b : Bool) → slice_get owned k ≡ Some r → slice_get marks k ≡ Some b → ((r.namespace == place) && b) ≡ is_swept s namespace place moment r
       law k r b here mark = mark_law (r.namespace == place) (is_committed r.content) b (is_reached s namespace place moment r.key) out kept
         where
+          among : list_any (reaches place owned in_order in_chains (is_in_use s namespace moment) r.key) owned ≡ is_reached s namespace place moment r.key
+          among = reached-own place (is_in_use s namespace moment) s.records r.key
+
           out : (r.namespace == place) ≡ true → b ≡ false → is_reached s namespace place moment r.key ≡ true
-          out own e = reached-is_reached place s.records good.sorted (good_chains s good) (is_in_use s namespace moment) k r here own ((set.reached k).0 (mark ∙ ap Some e))
+          out own_one e = sym among ∙ reached-is_reached place owned in_order in_chains (is_in_use s namespace moment) k r here own_one ((set.reached k).0 (mark ∙ ap Some e))
 
           free : b ≡ true → IsReached parents_of used_of k → ⊥
           free e = ((set.unreached k).0 (mark ∙ ap Some e)).1
 
           reached_itself : (r.namespace == place) ≡ true → is_committed r.content ≡ false → IsReached parents_of used_of k
-          reached_itself own e = (k, 0, slice_get-mapped is_used s.records k r here ∙ ap Some (and_from _ _ own (or_left _ _ (not_from_false (is_committed r.content) e))), refl)
+          reached_itself own_one e = (k, 0, slice_get-mapped is_used owned k r here ∙ ap Some (and_from _ _ own_one (or_left _ _ (not_from_false (is_committed r.content) e))), refl)
 
           kept : (r.namespace == place) ≡ true → b ≡ true → (is_committed r.content ≡ true) × (is_reached s namespace place moment r.key ≡ false)
-          kept own e = (
-            true_from_ne_false (is_committed r.content) (λ h. free e (reached_itself own h)),
-            false_from_ne_true (is_reached s namespace place moment r.key) (λ h. free e (is_reached-reached place s.records good.sorted (good_chains s good) (is_in_use s namespace moment) k r here own h)),
+          kept own_one e = (
+            true_from_ne_false (is_committed r.content) (λ h. free e (reached_itself own_one h)),
+            false_from_ne_true (is_reached s namespace place moment r.key) (λ h. free e (is_reached-reached place owned in_order in_chains (is_in_use s namespace moment) k r here own_one (among ∙ h))),
           )
 
 -- ---- the lists that the code makes
@@ -313,10 +330,10 @@ map-same f g same (x ∷ xs) = ap (λ y. y ∷ map f xs) (same x) ∙ ap (λ ys.
 -- the records that are marked are those that a sweep takes away
 pub planned : (s : State) (namespace : Bytes) (place moment : ℕ) → Good s → (names : List Bytes) (parents : List (Option ℕ)) (roots marks : List Bool)
     → ((name : Bytes) → is_among name names ≡ is_guarded_at s.leases namespace name moment)
-    → parents ≡ map (parent_place place s.records) s.records → roots ≡ map (is_kept place names) s.records → IsSweepSet parents roots marks
-    → marked place s.records marks ≡ swept s namespace place moment
+    → parents ≡ map (parent_place place (own place s.records)) (own place s.records) → roots ≡ map (is_kept place names) (own place s.records) → IsSweepSet parents roots marks
+    → marked place (own place s.records) marks ≡ swept s namespace place moment
 planned s namespace place moment good names parents roots marks guarded parents_are roots_are set =
     let same : roots ≡ used_of s namespace place moment =
-    roots_are ∙ map-same (is_kept place names) (is_used s namespace place moment) (λ r. ap (λ b. (r.namespace == place) && (not (is_committed r.content) || b)) (guarded r.key)) s.records in
+    roots_are ∙ map-same (is_kept place names) (is_used s namespace place moment) (λ r. ap (λ b. (r.namespace == place) && (not (is_committed r.content) || b)) (guarded r.key)) (own place s.records) in
     marked-swept s namespace place moment good marks
     (subst (λ ps. IsSweepSet ps (used_of s namespace place moment) marks) parents_are (subst (λ bs. IsSweepSet parents bs marks) same set))

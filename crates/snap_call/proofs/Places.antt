@@ -23,13 +23,14 @@ pub record IsPlace (s : State) (namespace key parent : Bytes) (place : ℕ) : Ty
   pub deep : is_too_deep s.ancestors place parent s.records ≡ false
 
 -- an answer that is no refusal comes from the tests that were passed
-past_test : (b : Bool) (why : Refusal) (next : Result ℕ Refusal) (place : ℕ) → (if b then Err why else next) ≡ Ok place → (b ≡ false) × (next ≡ Ok place)
-past_test true why next place e = absurd (cc)
-past_test false why next place e = (refl, e)
+module _ {X : Type 0} where
+  pub past_test : (b : Bool) (why : Refusal) (next : Result X Refusal) (x : X) → (if b then Err why else next) ≡ Ok x → (b ≡ false) × (next ≡ Ok x)
+  past_test true why next x e = absurd (cc)
+  past_test false why next x e = (refl, e)
 
-past_needed : (b : Bool) (why : Refusal) (next : Result ℕ Refusal) (place : ℕ) → (if b then next else Err why) ≡ Ok place → (b ≡ true) × (next ≡ Ok place)
-past_needed true why next place e = (refl, e)
-past_needed false why next place e = absurd (cc)
+  pub past_needed : (b : Bool) (why : Refusal) (next : Result X Refusal) (x : X) → (if b then next else Err why) ≡ Ok x → (b ≡ true) × (next ≡ Ok x)
+  past_needed true why next x e = (refl, e)
+  past_needed false why next x e = absurd (cc)
 
 same_place : (p place : ℕ) (found : Result ℕ Refusal) → found ≡ Ok p → found ≡ Ok place → p ≡ place
 same_place p place found e f = cc

@@ -2,7 +2,12 @@
 use Rattle.std.proofs.Common.{◌≡◌, ℕ, zero, suc, ◌<◌, ◌≤◌, Bool, true, false, Bor, List, [], ◌∷◌, Option, length, map, get_or, refl, sym, ap, ◌∙◌, subst, arith}
 use Rattle.std.proofs.Math.ListN.{get_or-map}
 use Rattle.std.proofs.lemmas.List.{length-map}
-use Rattle.std.specs.List.Sorted.{IsPartitionedBy, IsPartitionPoint}
+use Rattle.std.proofs.lemmas.Bool.{and_parts}
+use Rattle.std.proofs.lemmas.Bool.Decides.{nat_tests}
+use Rattle.std.proofs.lemmas.List.Kept.{IsStrictlySortedBy-filter}
+use Rattle.std.specs.List.Sorted.{IsPartitionedBy, IsPartitionPoint, IsStrictlySortedBy}
+use Rattle.std.specs.Prelude.{Some, ◌==◌, nat_le}
+use Rattle.snap_usage.specs.declared.usage.Usage.{Usage}
 use Rattle.snap_record.specs.Labels.{Bytes}
 use Rattle.snap_record.specs.declared.record.Record.{Record}
 use Rattle.snap_lease.specs.Leases.{is_guarded_at}
@@ -12,7 +17,11 @@ use Rattle.snap_call.specs.declared.state.State.{State}
 use Rattle.snap_call.specs.Good.{Good}
 use Rattle.snap_call.specs.Marked.{is_kept, marked, parent_place}
 use Rattle.snap_call.specs.Reached.{swept}
+use Rattle.snap_call.specs.Records.{record_cmp, charge_of}
+use Rattle.snap_call.specs.State.{place_of, limit_at}
+use Rattle.snap_call.proofs.Keeping.{place_of-below}
 use Rattle.snap_call.proofs.Marks.{planned}
+use Rattle.snap_call.proofs.Own.{own, charge-own}
 
 -- the records that are referred to
 abbrev pub all_now : List (Bor Record) → List Record
@@ -66,12 +75,32 @@ roots-now place names refs ds rs ps qs same are qs_are found =
 
 -- the marked records are the swept ones
 pub swept-now : (s : State) (namespace : Bytes) (place moment : ℕ) → Good s → (names : List Bytes) (refs ds es fs : List (Bor Record)) (ps qs : List (Option ℕ)) (bs cs ms ns : List Bool)
-    → all_now refs ≡ s.records → ds ≡ refs → es ≡ refs → fs ≡ refs
+    → all_now refs ≡ own place s.records → ds ≡ refs → es ≡ refs → fs ≡ refs
     → qs ≡ ps → ps ≡ map (λ (r : Bor Record). parent_place place (all_now ds) r.now) ds
     → cs ≡ bs → bs ≡ map (λ (r : Bor Record). is_kept place names r.now) es
     → ns ≡ ms → ((name : Bytes) → is_among name names ≡ is_guarded_at s.leases namespace name moment) → IsSweepSet qs cs ms
     → marked place (all_now fs) ns ≡ swept s namespace place moment
 swept-now s namespace place moment good names refs ds es fs ps qs bs cs ms ns are ds_are es_are fs_are qs_are ps_are cs_are bs_are ns_are guarded set =
-    ap (λ (l : List (Bor Record)). marked place (all_now l) ns) fs_are ∙ ap (λ (l : List Record). marked place l ns) are ∙ ap (marked place s.records) ns_are
+    ap (λ (l : List (Bor Record)). marked place (all_now l) ns) fs_are ∙ ap (λ (l : List Record). marked place l ns) are ∙ ap (marked place (own place s.records)) ns_are
     ∙ planned s namespace place moment good names qs cs ms guarded
-    (parents-now place refs ds s.records ps qs ds_are are qs_are ps_are) (roots-now place names refs es s.records bs cs es_are are cs_are bs_are) set
+    (parents-now place refs ds (own place s.records) ps qs ds_are are qs_are ps_are) (roots-now place names refs es (own place s.records) bs cs es_are are cs_are bs_are) set
+
+-- what a sweep finds of the namespace's records: they are in order, and their charge is a number of 64 bits
+pub own-sorted : (s : State) (place : ℕ) (refs ds : List (Bor Record)) → Good s → all_now refs ≡ own place s.records → ds ≡ refs → IsStrictlySortedBy record_cmp (all_now ds)
+own-sorted s place refs ds good are ds_are =
+    subst (IsStrictlySortedBy record_cmp) (sym (ap all_now ds_are ∙ are))
+    (IsStrictlySortedBy-filter record_cmp (λ r. r.namespace == place) s.records good.sorted)
+
+pub own-charge : (s : State) (namespace : Bytes) (place : ℕ) (refs ds : List (Bor Record)) → Good s → place_of namespace s.namespaces ≡ Some place → all_now refs ≡ own place s.records → ds ≡ refs
+    → ((charge_of place (all_now ds)).blocks < 18446744073709551616) × ((charge_of place (all_now ds)).inodes < 18446744073709551616)
+own-charge s namespace place refs ds good named are ds_are =
+    let lt = place_of-below namespace s.namespaces place named in
+    let most = and_parts (nat_le (limit_at place s.namespaces).blocks 1099511627776) (nat_le (limit_at place s.namespaces).inodes 1099511627776) (good.limits place lt) in
+    let within = good.promised.within place lt in
+    let blocks = most.0 in
+    let inodes = most.1 in
+    let low_blocks = within.blocks in
+    let low_inodes = within.inodes in
+    subst (λ (u : Usage). (u.blocks < 18446744073709551616) × (u.inodes < 18446744073709551616))
+    (sym (ap (charge_of place) (ap all_now ds_are ∙ are) ∙ charge-own place s.records))
+    (grind (arith, nat_tests, blocks, low_blocks), grind (arith, nat_tests, inodes, low_inodes))

@@ -45,6 +45,7 @@ good_spacing s ns good leased within limits short distinct placed = record {
   sorted = good.sorted;
   ids = good.ids;
   numbered = good.numbered;
+  rising = good.rising;
   fewer = good.fewer;
   few_slots = good.few_slots;
   slots = good.slots;

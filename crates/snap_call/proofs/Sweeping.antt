@@ -26,12 +26,12 @@ use Rattle.snap_call.specs.Step.{refused, swept_at, sweep_at, sweep}
 use Rattle.snap_call.proofs.Lengths.{length-filtered}
 use Rattle.snap_call.proofs.Lists.{all-each, all-map, all-both, all-any, all-kept, pairwise-filter, find-all, find-filter, find-passes, committed-parts, committed-from}
 use Rattle.snap_call.proofs.InOrder.{own_found, sorted-filter}
-use Rattle.snap_call.proofs.Chains.{HasParent, NamesStand, chain, OnParent, on_parent, on_parent-map, KeepsFor, AreOn, keeps-ancestors}
+use Rattle.snap_call.proofs.Chains.{HasParent, IsRising, NamesStand, chain, OnParent, on_parent, on_parent-map, KeepsFor, AreOn, keeps-ancestors}
 use Rattle.snap_call.proofs.Sums.{Covers-plus, charge_of-elsewhere, charge_of-filter, minus-plus, plus-none}
 use Rattle.snap_call.proofs.Counts.{open_count-filter}
 use Rattle.snap_call.proofs.Slots.{active_at-filter, charge_at-filter}
 use Rattle.snap_call.proofs.Reaching.{IsReached, reached_by, reached-above, root-above}
-use Rattle.snap_call.proofs.Keeping.{AreNamed, all_deep, chains_on, covers_gone, good_chains, good_counted, leases_on, parents_on, place_of-below, same_name, shown_on, within_after}
+use Rattle.snap_call.proofs.Keeping.{AreNamed, all_deep, chains_on, covers_gone, good_chains, good_counted, leases_on, parents_on, place_of-below, rising_on, same_name, shown_on, within_after}
 use Rattle.snap_call.proofs.Parts.{is_ancestor, unswept}
 use Rattle.snap_call.specs.Promised.{IsGuarding, IsUsageCounted}
 
@@ -260,6 +260,7 @@ module _ (s : State) (namespace : Bytes) (place moment : ℕ) where
         sorted = sorted-filter stays rs good.sorted;
         ids = pairwise-filter stays (λ t u. t.id ≢ u.id) rs good.ids;
         numbered = all-filter (λ t. t.id < s.next_id) stays rs good.numbered;
+        rising = rising_on P rs ts keeps ts on (all-filter (IsRising rs) stays rs good.rising);
         fewer = omega (arith, length-filtered stays rs, good.fewer);
         few_slots = good.few_slots;
         slots = pairwise-filter stays AreApart rs good.slots;

@@ -1,5 +1,5 @@
 -- What is true of the state whenever no call is under way.
-use Rattle.std.specs.Prelude.{◌≡◌, ◌≢◌, ℕ, ◌<◌, ◌≤◌, true, List, length}
+use Rattle.std.specs.Prelude.{◌≡◌, ◌≢◌, ℕ, ◌<◌, ◌≤◌, true, List, [], ◌∷◌, length, IsSomeAnd}
 use Rattle.std.specs.List.{AllByRecursion}
 use Rattle.std.specs.List.Sorted.{IsStrictlySortedBy}
 use Rattle.snap_lease.specs.Lease.{NamesOnce}
@@ -10,7 +10,7 @@ use Rattle.snap_record.specs.declared.record.Record.{Record}
 use Rattle.snap_mount.specs.Mounts.{is_root_text}
 use Rattle.snap_call.specs.declared.state.State.{State}
 use Rattle.snap_call.specs.Forms.{is_limit, is_layer_limit, is_ancestor_limit, have_distinct_names}
-use Rattle.snap_call.specs.Records.{record_cmp, AllPairwise, AreApart, HasLowSlot, max_slots}
+use Rattle.snap_call.specs.Records.{record_cmp, committed_at, AllPairwise, AreApart, HasLowSlot, max_slots}
 use Rattle.snap_call.specs.Promised.{Promised}
 use Rattle.snap_call.specs.State.{limit_at, is_taken_at, shown_layers}
 
@@ -18,6 +18,11 @@ use Rattle.snap_call.specs.State.{limit_at, is_taken_at, shown_layers}
 abbrev pub IsShown : List Record → ℕ → Bytes → Content → Type 0
 IsShown rs place parent (View layers) = layers ≡ shown_layers place parent rs
 IsShown rs place parent content = Unit {0}
+
+-- the parent is none, or a committed snapshot of the namespace whose id is below this one
+abbrev pub HasOlderParent : List Record → ℕ → Bytes → ℕ → Type 0
+HasOlderParent rs place [] id = Unit {0}
+HasOlderParent rs place (b ∷ bs) id = IsSomeAnd (committed_at place (b ∷ bs) rs) (λ p. p.id < id)
 
 -- each namespace's name has at most 255 bytes
 abbrev pub HasShortNames : State → Type 0
@@ -44,6 +49,8 @@ pub record Good (s : State) : Type 0 where
   -- no two snapshots have the same id, and the next one is above all
   pub ids : AllPairwise (λ r t. r.id ≢ t.id) s.records
   pub numbered : AllByRecursion (λ r. r.id < s.next_id) s.records
+  -- each snapshot's id is above its parent's
+  pub rising : AllByRecursion (λ r. HasOlderParent s.records r.namespace r.parent r.id) s.records
   -- there are fewer snapshots than the next id
   pub fewer : length s.records < s.next_id
   -- the store has 1 to 4096 slots, no two active snapshots have the same one, and each has one of them

@@ -16,3 +16,4 @@ pub mod Kept
 pub mod Journal
 pub mod Holder
 pub mod Totals
+pub mod Saved

@@ -39,8 +39,8 @@ impl Model for Records {
     ghost invariant = { λ r. AreCounted r.spaces.list.items r.spaces.count × AreIndexed (joined_records r.spaces.list.items) r.slots };
 }
 
-// The slot of an active snapshot.
-fn slot_of(content: &Content) -> Option<u64>
+/// The slot of an active snapshot. Takes no memory.
+pub fn slot_of(content: &Content) -> Option<u64>
     ensures { result ≡ slot_of content.now }
 {
     match content {

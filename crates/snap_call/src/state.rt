@@ -3,6 +3,7 @@ ghost use Rattle.snap_call.specs.Forms.{is_config, is_namespace};
 ghost use Rattle.snap_call.specs.Good.{Good};
 ghost use Rattle.snap_call.specs.Promised.{Promised};
 ghost use Rattle.snap_call.specs.Records.{active_at, committed_as, has_key, has_records, info_page, with_record, without_slot};
+ghost use Rattle.snap_call.specs.Saved.{CanPutBack, with_saved};
 ghost use Rattle.snap_call.specs.State.{opening, place_of, name_at, limit_at, is_taken, is_taken_at, with_limit, with_namespace, without_namespace};
 ghost use Rattle.snap_call.specs.Step.{IsAllowed, step, has_named, leases_after};
 ghost use Rattle.snap_call.specs.declared.call.Call.{Call};
@@ -224,6 +225,24 @@ impl State {
             return Err(refused);
         }
         let _ = self.records.take_slot(slot);
+        Ok(())
+    }
+
+    /// Puts the record of a saved snapshot in its place. The next snapshot has the id after its own, and no entry
+    /// is counted. Takes memory for its place; where that is refused, nothing changes. The cost grows with the
+    /// logarithm of the number of records.
+    pub fn put_saved(&mut self, added: Record) -> Result<(), AllocError>
+        requires good { Good self.old }
+        requires possible { CanPutBack self.old added }
+        ensures ok { OnOk result (self.new ≡ with_saved self.old added) }
+        ensures good { OnOk result (Good self.new) }
+        ensures err { OnErr result (self.new ≡ self.old) }
+    {
+        let next = added.id as u64 + 1;
+        if let Err((no_memory, _)) = self.records.insert(added) {
+            return Err(no_memory.into());
+        }
+        self.next_id = next;
         Ok(())
     }
 

@@ -167,9 +167,9 @@ impl State {
     /// What a sweep of the namespace at the place takes away at the moment.
     ///
     /// Takes memory for the answer, for copies of the names in the live leases of the namespace, and
-    /// for four lists with an item for each record. The cost grows with the leases and their names,
-    /// and with the records times the logarithm of their number, which is what it takes to find their
-    /// parents.
+    /// for four lists with an item for each of its records. The cost grows with the leases and their names,
+    /// and with these records times the logarithm of their number, which is what it takes to find their
+    /// parents; not with what other namespaces have.
     pub fn plan_sweep(
         &self,
         alloc: Global,
@@ -182,7 +182,7 @@ impl State {
         ensures removed { IfOk result (λ w. w.removed ≡ swept_keys self.now namespace.now place moment) }
         ensures freed { IfOk result (λ w. w.freed ≡ charge_of place (swept self.now namespace.now place moment)) }
     {
-        let records = self.records.list(alloc)?;
+        let records = self.records.list_of(alloc, place)?;
         let names = self.leases.live_names(namespace, moment)?;
         let parents = parent_places(alloc, &records, place)?;
         let roots = roots(alloc, &records, place, &names)?;

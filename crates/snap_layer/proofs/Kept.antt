@@ -34,7 +34,7 @@ no_bool e = cc
 some_is : (o : Option Node) (n : Node) → o ≡ Some n → IsSome o
 some_is o n e = ap is_some e
 
-dir_is_some : (o : Option Node) → IsDirAt o → IsSome o
+pub dir_is_some : (o : Option Node) → IsDirAt o → IsSome o
 dir_is_some None dir = absurd dir
 dir_is_some (Some n) dir = refl
 

@@ -1,4 +1,5 @@
 pub mod Lists
+pub mod Above
 pub mod Paths
 pub mod Looks
 pub mod Counting

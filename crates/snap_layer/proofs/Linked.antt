@@ -14,8 +14,8 @@ use Rattle.snap_layer.specs.declared.node.Body.TheVariants as body_kinds
 use Rattle.snap_layer.specs.Tree.{Tree, IsDirAt, path_cmp, at, body, number_at, number_of, has_number, leaf_node}
 use Rattle.snap_layer.specs.Counts.{inode_count, block_count, body_blocks, name_count}
 use Rattle.snap_layer.specs.Layers.{IsLayer, IsBody}
-use Rattle.snap_layer.specs.Edits.{with_entry, with_linked, with_new, with_node, without, outside, bodies_without, IsFree, IsTakeable, HasParent, HasPlace, HasRooms}
-use Rattle.snap_layer.specs.Undoing.{with_next, stood_at, IsNew}
+use Rattle.snap_layer.specs.Edits.{with_entry, with_linked, with_new, with_next, with_node, without, outside, bodies_without, IsFree, IsTakeable, HasParent, HasPlace, HasRooms}
+use Rattle.snap_layer.specs.Undoing.{stood_at, IsNew}
 use Rattle.snap_layer.proofs.Lists.{sorted-filter}
 use Rattle.snap_layer.proofs.Paths.{begins_rest, split_front}
 use Rattle.snap_layer.proofs.Looks.{at-without, same_tree, split_number, is_dropped, name_found}

@@ -1,13 +1,14 @@
--- A number that is given back.
-use Rattle.std.proofs.Common.{◌≡◌, inl, inr, ℕ, ◌-◌, ◌<◌, Option, Some, None, IsSome, refl, sym, ap, subst, ◌∙◌, arith}
+-- The next number: given back, or raised.
+use Rattle.std.proofs.Common.{◌≡◌, inl, inr, ℕ, ◌-◌, ◌<◌, ◌≤◌, Option, Some, None, IsSome, refl, sym, ap, subst, ◌∙◌, arith}
 use Rattle.std.specs.Prelude.{option_and_then}
 use Rattle.std.specs.Cmp.{nat_cmp_total}
 use Rattle.std.specs.FinMap.{nat_cmp-IsAntisymmetric}
+use Rattle.snap_path.specs.Limits.{most_number}
 use Rattle.snap_path.specs.Text.{Names}
 use Rattle.snap_layer.specs.declared.node.Body.{Body}
 use Rattle.snap_layer.specs.Tree.{Tree, at, body, number_at, number_of}
 use Rattle.snap_layer.specs.Layers.{IsLayer}
-use Rattle.snap_layer.specs.Undoing.{with_next}
+use Rattle.snap_layer.specs.Edits.{with_next}
 use Rattle.snap_layer.specs.Walk.{SlotView}
 use Rattle.snap_layer.specs.Holds.{Places}
 use Rattle.snap_layer.proofs.Lists.{same_lists}
@@ -41,15 +42,34 @@ IsLayer-with_next t ok given gone = record {
     below : (k n : ℕ) → k < n → (k ≡ n - 1 → ⊥) → k < n - 1
     below k n lt apart = omega (arith, apart, lt)
 
--- the table reads as it did
-pub made_with_next : (s : SlotView) (root : ℕ) (places : Places) (next : ℕ) (u : Tree) → Makes s root places next u → Makes s root places (next - 1) (with_next u (u.next - 1))
-made_with_next s root places next u m = record {
+-- the layer with a later next number
+pub IsLayer-raised : (t : Tree) → IsLayer t → (k : ℕ) → t.next ≤ k → k ≤ most_number → IsLayer (with_next t k)
+IsLayer-raised t ok k later last = record {
+  root = ok.root;
+  parents = ok.parents;
+  paths = ok.paths;
+  nodes = λ p n e. IsWhole-same t (with_next t k) n (λ j is. refl) (ok.nodes p n e);
+  named = ok.named;
+  numbers = λ j some. let was = ok.numbers j some in (was.0, omega (arith, was.1, later));
+  next = (omega (arith, ok.next.0, later), last);
+  few = ok.few;
+  most = ok.most;
+  sorted_paths = ok.sorted_paths;
+  sorted_numbers = ok.sorted_numbers;
+}
+
+-- the table reads as it did, whatever its next number is
+pub made_next : (s : SlotView) (root : ℕ) (places : Places) (next : ℕ) (u : Tree) → Makes s root places next u → (j k : ℕ) → j ≡ k → Makes s root places j (with_next u k)
+made_next s root places next u m j k same = record {
   table = m.table;
   filed = record { placed = m.filed.placed; housed = m.filed.housed; counted = m.filed.counted; sorted = m.filed.sorted };
   shows = m.shows;
   bodies = m.bodies;
-  last = ap (λ (k : ℕ). k - 1) m.last;
+  last = same;
 }
+
+pub made_with_next : (s : SlotView) (root : ℕ) (places : Places) (next : ℕ) (u : Tree) → Makes s root places next u → Makes s root places (next - 1) (with_next u (u.next - 1))
+made_with_next s root places next u m = made_next s root places next u m (next - 1) (u.next - 1) (ap (λ (k : ℕ). k - 1) m.last)
 
 -- a layer that has what another has, but for the body under the other's next number, is it once that is its next number
 module _ (t w : Tree) (okt : IsLayer t) (okw : IsLayer w) (same : (q : Names) → at t q ≡ at w q) (bodies : (k : ℕ) → (k ≡ w.next → ⊥) → body t k ≡ body w k) where

@@ -77,6 +77,10 @@ with_new t p n b =
     let u = with_node t p n in
     record u { bodies = insert_entry nat_cmp u.bodies t.next b; next = t.next + 1 }
 
+-- the layer with another next number
+abbrev pub with_next : Tree → ℕ → Tree
+with_next t k = record t { next = k }
+
 -- the node that names a file number, if it has a body
 abbrev pub named_node : ℕ → Option Body → Option Node
 named_node k None = None

@@ -1,5 +1,5 @@
 -- What takes back a new file or symlink.
-use Rattle.std.specs.Prelude.{◌≡◌, ℕ, Bool, Option, Some, None, if◌then◌else◌}
+use Rattle.std.specs.Prelude.{◌≡◌, Bool, Option, Some, None, if◌then◌else◌}
 use Rattle.snap_path.specs.Text.{Names}
 use Rattle.snap_layer.specs.declared.node.Node.{Node}
 use Rattle.snap_layer.specs.declared.node.Node.TheVariants.{Whiteout}
@@ -7,10 +7,6 @@ use Rattle.snap_layer.specs.declared.node.Body.{Body}
 use Rattle.snap_layer.specs.Tree.{Tree, at, number_of}
 use Rattle.snap_layer.specs.Layers.{IsLayer}
 use Rattle.snap_layer.specs.Edits.{with_new}
-
--- the layer with another next number
-abbrev pub with_next : Tree → ℕ → Tree
-with_next t k = record t { next = k }
 
 -- what stood there: a whiteout, or nothing
 abbrev pub stood_at : Bool → Option Node

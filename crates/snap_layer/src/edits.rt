@@ -11,7 +11,7 @@ ghost use Rattle.snap_layer.specs.Contents.{body_content, edited, Grows, IsConte
 ghost use Rattle.snap_layer.specs.Totals.{path_count, fits, IsClear, IsRoom};
 ghost use Rattle.snap_layer.specs.Layers.{IsLayer, IsBody, IsMeta, is_target};
 ghost use Rattle.snap_layer.specs.declared.content.Content.{Content as ContentValue};
-ghost use Rattle.snap_layer.specs.Edits.{with_body, with_entry, with_dirs, with_node, with_new, with_name, named_node, with_filled, with_mode, with_opaque, with_moved, with_linked, with_tree_taken, without, without_tree, inside, HasRoom, HasRooms, HasPlace, IsInnerDir, IsTakeable, IsMovable, IsRegular, HasMode};
+ghost use Rattle.snap_layer.specs.Edits.{with_body, with_entry, with_dirs, with_node, with_new, with_name, named_node, with_filled, with_mode, with_opaque, with_moved, with_linked, with_next, with_tree_taken, without, without_tree, inside, HasRoom, HasRooms, HasPlace, IsInnerDir, IsTakeable, IsMovable, IsRegular, HasMode};
 
 use super::bytes::Edit;
 use super::content::Content;
@@ -111,7 +111,10 @@ impl Layer {
     }
 
     /// Adds a file or symlink with the next number, in place of what stands at the path, and gives the number.
-    fn add_body(&mut self, path: &Path, body: Body) -> Result<u32, LayerError>
+    ///
+    /// The conditions are those of `has_place`, and the limits of `add_file` and `add_symlink`. Errors and cost are
+    /// those of `add_file`.
+    pub fn add_body(&mut self, path: &Path, body: Body) -> Result<u32, LayerError>
         requires place { HasPlace self.old path.now }
         requires fits { IsBody body }
         ensures ok { OnOk result (self.new ≡ with_new self.old path.now (leaf_node self.old.next body) body) }
@@ -351,6 +354,17 @@ impl Layer {
             Some(Node::Whiteout) => {}
             None => {}
         }
+    }
+
+    /// Gives the next file or symlink a later number: those between are never given.
+    ///
+    /// The condition is that it isn't below `next_number`. Takes no memory. The cost is constant.
+    pub fn raise(&mut self, next: u32)
+        requires { self.old.next ≤ next }
+        ensures next { self.new ≡ with_next self.old next }
+        ensures layer { IsLayer self.new }
+    {
+        self.table.raise(next);
     }
 
     /// What the layer takes once something that takes so much stands at the path in place of what stands there:

@@ -160,6 +160,18 @@ impl Layer {
         self.table.children(path)
     }
 
+    /// The paths at which something stands, in order: the root first, and each directory before what is in it.
+    ///
+    /// It fails only where memory is refused. Cost: the texts of the paths, and their number times the logarithm of a
+    /// directory's entries.
+    pub fn paths(&self) -> Result<Vec<Path>, AllocError>
+        ensures paths { IfOk result (λ paths. paths.items ≡ keys_of self.now.entries) }
+        ensures layer { IsLayer self.now }
+    {
+        let root = Path::root(self.alloc());
+        self.table.paths_inside(&root)
+    }
+
     /// The file or symlink with the number, or nothing.
     ///
     /// Takes no memory. Cost: the logarithm of the number of files.

@@ -9,12 +9,12 @@ ghost use Rattle.snap_layer.specs.Counts.{inode_count, name_count, body_blocks, 
 ghost use Rattle.snap_layer.specs.Contents.{body_content, body_edited, Grows, IsShort};
 ghost use Rattle.snap_path.specs.Text.{IsPath};
 ghost use Rattle.snap_layer.specs.Layers.{IsLayer, IsFile, IsMeta};
-ghost use Rattle.snap_layer.specs.Edits.{root_within, with_body, with_entry, with_dirs, with_node, with_new, without, with_moved, with_file_mode, with_linked, HasPlace, HasRooms, IsTakeable, IsFree, HasParent, IsMovable};
+ghost use Rattle.snap_layer.specs.Edits.{root_within, with_body, with_entry, with_dirs, with_node, with_new, without, with_moved, with_file_mode, with_linked, with_next, HasPlace, HasRooms, IsTakeable, IsFree, HasParent, IsMovable};
 ghost use Rattle.snap_layer.specs.declared.node.Body.{Body as BodyValue};
 ghost use Rattle.snap_layer.specs.declared.node.Node.{Node as NodeValue};
 ghost use Rattle.snap_layer.specs.contracts.node.Node as node_contracts;
 ghost use Rattle.snap_layer.specs.Holds.{Holds, Holds-prop};
-ghost use Rattle.snap_layer.specs.Undoing.{with_next, IsNew};
+ghost use Rattle.snap_layer.specs.Undoing.{IsNew};
 
 pub(crate) mod reads;
 mod same;
@@ -277,6 +277,14 @@ impl Table {
         ensures { self.new ≡ with_next self.old (self.old.next - 1) }
     {
         self.next -= 1;
+    }
+
+    /// Gives the next file or symlink a later number.
+    pub fn raise(&mut self, next: u32)
+        requires { self.old.next ≤ next }
+        ensures { self.new ≡ with_next self.old next }
+    {
+        self.next = next;
     }
 
     /// Puts a whiteout in place of what stands at the path, if anything does. A file or symlink goes with its last name.

@@ -1,5 +1,6 @@
 use Rattle.std.proofs.Common.{length}
-use Rattle.snap_usage.proofs.Above.{above, Left}
+use Rattle.snap_layer.proofs.Above.{above}
+use Rattle.snap_usage.proofs.Above.{Left}
 use Rattle.snap_usage.proofs.usage.recount.Given as goal
 
 -- what is counted, and what the bodies above `after` add, is what the layer takes

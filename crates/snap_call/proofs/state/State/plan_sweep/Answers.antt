@@ -3,8 +3,17 @@ use Rattle.snap_record.specs.declared.record.Record.{Record}
 use Rattle.snap_call.specs.Records.{charge_of}
 use Rattle.snap_call.specs.declared.sweep.Sweep.{Sweep}
 use Rattle.snap_call.proofs.Marks.{parents-within}
-use Rattle.snap_call.proofs.Referred.{all_now, parents-now, swept-now}
+use Rattle.snap_call.proofs.Referred.{all_now, own-charge, own-sorted, parents-now, swept-now}
 use Rattle.snap_call.proofs.state.State.plan_sweep.Goals as goal
+
+pub parent_places-requires : goal.parent_places-requires
+parent_places-requires c = own-sorted c.args.self.now c.args.place c.in_ok-records.records.items c.deref.result.now c.requires.good c.in_ok-records.ensures c.deref.ensures.value
+
+pub gather-requires-clause-blocks : goal.gather-requires-clause-blocks
+gather-requires-clause-blocks c = (own-charge c.args.self.now c.args.namespace.now c.args.place c.in_ok-records.records.items c.deref-5.result.now c.requires.good c.requires.named c.in_ok-records.ensures c.deref-5.ensures.value).0
+
+pub gather-requires-clause-inodes : goal.gather-requires-clause-inodes
+gather-requires-clause-inodes c = (own-charge c.args.self.now c.args.namespace.now c.args.place c.in_ok-records.records.items c.deref-5.result.now c.requires.good c.requires.named c.in_ok-records.ensures c.deref-5.ensures.value).1
 
 pub sweep_set-requires-clause-within : goal.sweep_set-requires-clause-within
 sweep_set-requires-clause-within c =

@@ -1,7 +1,7 @@
 use Rattle.std.proofs.Common.{◌-◌, subst}
 use Rattle.snap_layer.specs.contracts.node.Node as node_contracts
 use Rattle.snap_layer.specs.Layers.{IsLayer}
-use Rattle.snap_layer.specs.Undoing.{with_next}
+use Rattle.snap_layer.specs.Edits.{with_next}
 use Rattle.snap_layer.specs.Walk.{view_of}
 use Rattle.snap_layer.proofs.Makes.{opens, makes_view, makes_kept, most_same}
 use Rattle.snap_layer.proofs.Numbers.{IsLayer-with_next, made_with_next}

@@ -1,0 +1,9 @@
+pub mod Inserting
+pub mod Adding
+pub mod Rising
+pub mod Once
+pub mod Gathering
+pub mod Counted
+pub mod Under
+pub mod Fitting
+pub mod Refuting

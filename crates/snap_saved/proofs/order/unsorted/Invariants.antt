@@ -1,0 +1,7 @@
+use Rattle.std.proofs.Common.{◌≡◌, ℕ, ◌+◌, ◌<◌, get_or, []}
+use Rattle.std.specs.declared.cmp.Ordering.TheVariants.{Less}
+use Rattle.snap_layer.specs.Tree.{path_cmp}
+use Rattle.snap_saved.proofs.order.unsorted.Given as goal
+
+abbrev pub invariant-loop-place : goal.invariant-loop-place
+invariant-loop-place l = (k : ℕ) → k + 1 < l.place → path_cmp (get_or l.paths k []) (get_or l.paths (k + 1) []) ≡ Less

@@ -1,0 +1,5 @@
+pub mod Values
+pub mod Saved
+pub mod Named
+pub mod Walked
+pub mod Refusing
