@@ -61,7 +61,7 @@ impl<N: StoreName> Accounts<N> {
         Ok(())
     }
 
-    // The limit of the namespace at the place covers so much more.
+    // The limit of the namespace at the place covers its charge with the usage added.
     fn check_room(&self, place: usize, more: Usage) -> Result<(), Refusal>
         requires { place < length self.now.namespaces }
         ensures answer { result ≡ room_answer self.now place more }

@@ -13,7 +13,7 @@ use snap_call::{Refusal, State};
 use snap_ledger::StoreName;
 use std::alloc::Global;
 
-// Whether a round of at most so many entries may begin at the state.
+// Whether a round with this most of entries may begin at the state.
 fn test_round(state: &State, journal: u64) -> Result<(), Refusal>
     ensures answer { result ≡ round_answer state.now journal }
     ensures limit { OnOk result (journal ≤ max_journal) }
@@ -30,7 +30,7 @@ fn test_round(state: &State, journal: u64) -> Result<(), Refusal>
 }
 
 impl<N: StoreName> Book<N> {
-    /// A book whose round begins at the state of these accounts: its journal is empty and has at most so many
+    /// A book whose round begins at the state of these accounts: its journal is empty and has at most `journal`
     /// entries, and sessions are counted from 0. Snapshots may be open, as in [`Book::roll`], in their writers'
     /// hands.
     ///
@@ -58,7 +58,7 @@ impl<N: StoreName> Book<N> {
         })
     }
 
-    /// Begins the next round, whose journal has at most so many entries: it is empty, and sessions are
+    /// Begins the next round, whose journal has at most `journal` entries: it is empty, and sessions are
     /// counted from 0 again. All snapshots stay, and their records and charges; the first entry has the
     /// number after the last one's. No snapshot may be open.
     ///

@@ -200,7 +200,7 @@ base_below s good place (b ∷ bs) id base high = by (committed_at place (b ∷ 
         let low = record_at-all (λ t. t.id < s.next_id) place (b ∷ bs) s.records r (committed_at-record_at place (b ∷ bs) s.records r e) good.numbered in
         omega (arith, low, high)
 
--- the state with a record more, with this next id and so many entries
+-- the state with a record more, with this next id and this number of entries
 abbrev pub joined : State → Record → ℕ → ℕ → State
 joined s r next entries = record s { records = with_record r s.records; next_id = next; entries = entries }
 

@@ -57,7 +57,7 @@ abbrev pub slot_answer : State → SavedContent → Result Unit Refusal
 slot_answer s (Active slot charged) = tests_answer (must (nat_lt slot s.slots) TooManyActives ∷ must_not (list_any (is_slot slot) s.records) TooManyActives ∷ must (covers charged one) BadArgument ∷ [])
 slot_answer s content = Ok tt
 
--- the limit of the namespace at the place covers so much more
+-- the limit of the namespace at the place covers its charge with the usage added
 abbrev pub room_answer : State → ℕ → Usage → Result Unit Refusal
 room_answer s place more = tests_answer (must (covers (limit_at place s.namespaces) (plus (charge_of place s.records) more)) (over_limit s place) ∷ [])
 

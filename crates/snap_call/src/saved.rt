@@ -7,7 +7,7 @@ use snap_usage::Usage;
 pub enum SavedContent {
     /// A view shows the layers of its committed ancestors.
     View,
-    /// An active snapshot has one of the slots of its store, counted from 0, and its namespace is charged so much for it.
+    /// An active snapshot has one of the slots of its store, counted from 0, and what its namespace is charged for it.
     Active { slot: u64, charged: Usage },
     /// A committed snapshot has its layer, over which its usage is counted.
     Committed { layer: Shared },

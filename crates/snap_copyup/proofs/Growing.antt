@@ -58,7 +58,7 @@ missing_split t front (n ∷ a) b =
     let later = missing_split t (front ++ n ∷ []) a b in
     omega (arith, later, ap (λ (q : Names). missing_from t q b) (append_assoc front (n ∷ []) a))
 
--- the layer t has so many directories more than u and no other names, and its paths rise
+-- the layer t has this number of directories more than u and no other names, and its paths rise
 pub record Grows (u t : Tree) (n : ℕ) : Type 0 where
   pub sorted : IsStrictlySortedBy path_cmp (keys_of t.entries)
   pub inodes : inode_count t ≡ inode_count u + n

@@ -121,6 +121,6 @@ module _ (u : Tree) (p : Names) (n : ℕ) (ok : IsLayer u) (stands : StandsAbove
         ]
   ]
 
-  -- of the paths above the path with k names or more so many are missing
+  -- of the paths above the path with k names or more this number are missing
   pub missing_left : (k : ℕ) → missing_from u (take k p) (drop k p) ≡ length p - max k n
   missing_left k = left_from (length p) k (omega arith)

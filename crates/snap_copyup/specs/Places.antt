@@ -41,7 +41,7 @@ CanStand Whiteout t p = IsFreePlace t p
 abbrev pub IsRefusal : Tree → FsError → Type 0
 IsRefusal t e = (e ≡ OutOfMemory no_memory) ⊎ ((e ≡ LayerFull) × (is_within t ≡ false))
 
--- the second layer takes so many inodes more than the first, and as many blocks
+-- the second layer takes this number of inodes more than the first, and as many blocks
 abbrev pub TakesMore : ℕ → Tree → Tree → Type 0
 TakesMore n u t = (inode_count t ≡ inode_count u + n) × (block_count t ≡ block_count u + n)
 

@@ -9,7 +9,7 @@ abbrev pub Undoes : List Names → Tree → Tree → Type 0
 Undoes [] v u = v ≡ u
 Undoes (p ∷ ps) v u = IsTakeable v p × Undoes ps (without v p) u
 
--- the fronts of the path that have so many names or more, as many as these, the longest first
+-- the fronts of the path that have this number of names or more, as many as these, the longest first
 abbrev pub fronts : Names → ℕ → ℕ → List Names
 fronts p first zero = []
 fronts p first (suc k) = take (first + k) p ∷ fronts p first k

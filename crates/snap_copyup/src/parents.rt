@@ -81,7 +81,7 @@ pub fn put(layer: &mut Layer, lowers: &[Shared], path: &Path, last: Last) -> Res
     }
 }
 
-/// Adds the directories above the path that the layer doesn't have, of which that of so many names is the first.
+/// Adds the directories above the path that the layer doesn't have, the first of them the one of `first` names.
 fn add_missing(
     layer: &mut Layer,
     lowers: &[Shared],
@@ -103,7 +103,7 @@ fn add_missing(
     Ok(())
 }
 
-/// Takes the directories above the path, the lowest first, down to that of so many names.
+/// Takes the directories above the path, the lowest first, down to that of `first` names.
 fn take_dirs(layer: &mut Layer, path: &Path, first: usize)
     requires within { first ≤ length path.now }
     requires undo { (u : Tree) × Undoes (fronts path.now first (length path.now - first)) layer.old u }
@@ -138,7 +138,7 @@ pub(crate) fn put_last(layer: &mut Layer, path: &Path, last: Last) -> Result<(),
     Ok(())
 }
 
-/// How many directories above the path the layer doesn't have. So many inodes, and as many blocks, it takes
+/// How many directories above the path the layer doesn't have. It takes this number of inodes, and as many blocks,
 /// more once `ensure_dirs` has added them, whatever the lower layers are.
 ///
 /// Takes no memory. Cost: for each name of the path, as far as the layer has a node, the logarithm of a
@@ -151,7 +151,7 @@ pub fn missing_dirs(layer: &Layer, path: &Path) -> usize
 }
 
 /// How many directories above the one path or the other the layer doesn't have; what is above both counts
-/// once. So many inodes, and as many blocks, it takes more once `ensure_dirs` has added them for both.
+/// once. It takes this number of inodes, and as many blocks, more once `ensure_dirs` has added them for both.
 ///
 /// Takes no memory. Cost: for each name of both paths, as far as the layer has a node, the logarithm of a
 /// directory's entries.

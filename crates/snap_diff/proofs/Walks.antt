@@ -207,7 +207,7 @@ put_other most after rows first k t ts p old new kind was is told other more tou
 
 -- ---- all of a page
 
--- a page with room for so many more
+-- a page with room for this number more
 after_all : (most : ℕ) (after : Option Names) (k : ℕ) (rows : List Change) → length rows + k ≡ most → (xs : List Change) → put_rows most after rows xs ≡ rows ++ take k (filter (λ change. is_after after change.path) xs)
 after_all most after zero rows e xs = put_full most after rows xs (le-ltb (length rows) most (omega arith)) ∙ sym (append-nil rows)
 after_all most after (suc k) rows e [] = sym (append-nil rows)

@@ -64,7 +64,7 @@ abbrev pub if_directory : Option Object → List Change → List Change
 if_directory (Some (dir meta)) changes = changes
 if_directory other changes = []
 
--- the changes at the path and below it, at so many names in a row at the most: a directory before what is in it
+-- the changes at the path and below it, at this number of names in a row at the most: a directory before what is in it
 unfoldable pub changes_below : ℕ → Tree → List Tree → Names → List Change
 changes_below zero t ts p = []
 changes_below (suc n) t ts p =
@@ -80,7 +80,7 @@ abbrev pub is_after : Option Names → Names → Bool
 is_after None p = true
 is_after (Some after) p = is_lt (path_cmp after p)
 
--- of the changes after the path the first so many
+-- of the changes after the path at most this number, the first
 abbrev pub page : Option Names → ℕ → List Change → List Change
 page after most changes = take most (filter (λ change. is_after after change.path) changes)
 

@@ -172,7 +172,7 @@ impl<'a> Walk<'a> {
         Ok(self.old().look(&path))
     }
 
-    /// Keeps the changes at the place and below it, at so many names in a row at the most. `below` is false where the
+    /// Keeps the changes at the place and below it, at `depth` names in a row at the most. `below` is false where the
     /// layers below show nothing at the path.
     #[cycle(put_below)]
     fn put_below(
@@ -305,7 +305,7 @@ impl<'a> Walk<'a> {
         }
     }
 
-    /// The place at the first so many names of the path that the page begins after.
+    /// The place at the first `names` names of the path that the page begins after.
     fn front(&self, after: &'a Path, names: usize, own: Own<'a>) -> Result<Place<'a>, AllocError>
         requires { names ≤ length after.now }
         ensures { IfOk result (λ place. (place.path ≡ take names after.now) × (place.own ≡ own.entry) × (option_copied place.after ≡ Some (drop names after.now))) }
@@ -319,7 +319,7 @@ impl<'a> Walk<'a> {
         })
     }
 
-    /// Keeps the changes at the first so many names of the path that the page begins after, and below them. A directory
+    /// Keeps the changes at the first `names` names of the path that the page begins after, and below them. A directory
     /// there that the layer shares with the layers below comes before the page: it is looked at, and gets a path, only
     /// where a name of the layer's comes after the place.
     fn put_way(
@@ -358,7 +358,7 @@ impl<'a> Walk<'a> {
         self.put_rest(after, names, own, from, depth - 1, rows)
     }
 
-    /// Keeps the changes at the first so many names of the path, and below them.
+    /// Keeps the changes at the first `names` names of the path, and below them.
     fn put_front(
         &self,
         after: &'a Path,
@@ -375,7 +375,7 @@ impl<'a> Walk<'a> {
         self.put_below(&place, true, depth, rows)
     }
 
-    /// Keeps the changes at the own names from the bound on in the directory at the first so many names of the path.
+    /// Keeps the changes at the own names from the bound on in the directory at the first `names` names of the path.
     /// The directory gets a path where there is such a name, and room for its changes.
     fn put_rest(
         &self,
@@ -403,7 +403,7 @@ impl<'a> Walk<'a> {
 }
 
 /// What the layer changes of what the lower layers show, the nearest of them first, in order of the paths: of the
-/// changes after a path, or of all, the first so many.
+/// changes after a path, or of all, the first `most`.
 ///
 /// A path is added where something is seen with the layer alone, removed where something is seen without it alone, and
 /// changed where the two objects differ in kind, mode, content or target. A content of a size without a digest, which

@@ -27,7 +27,7 @@ use Rattle.snap_layer.proofs.Moving.{moved_becomes}
 use Rattle.snap_layer.proofs.Replacing.{inode_count-with_new, with_node-free}
 use Rattle.snap_layer.proofs.Totaling.{path_count-with_node, path_count-with_moved}
 
--- u is the layer t with what takes so many numbers, inodes and blocks in place of what stands at the path
+-- u is the layer t with what takes these numbers, inodes and blocks in place of what stands at the path
 pub record Costs (t u : Tree) (p : Names) (k i b : ℕ) : Type 0 where
   pub next : u.next ≡ t.next + k
   pub most : u.most ≡ t.most

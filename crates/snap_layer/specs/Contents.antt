@@ -43,7 +43,7 @@ written (Bytes old) offset bytes = Bytes (bytes_written old offset bytes)
 written (Sized size digest) offset [] = Sized size digest
 written (Sized size digest) offset (b ∷ bs) = Sized (max size (offset + length (b ∷ bs))) None
 
--- a file of so many bytes; one of another size has a content that nobody knows any more, and its own size changes nothing
+-- a file brought to a number of bytes; one of another size has a content that nobody knows any more, and its own size changes nothing
 abbrev pub resized : Content → ℕ → Content
 resized (Bytes old) size = Bytes (bytes_resized old size)
 resized (Sized old digest) size = if old == size then Sized old digest else Sized size None

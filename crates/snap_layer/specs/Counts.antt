@@ -24,7 +24,7 @@ name_count k es = count_by (has_number k) (values_of es)
 abbrev pub inode_count : Tree → ℕ
 inode_count t = dir_count t + whiteout_count t + length t.bodies
 
--- the blocks of so many bytes, the last one counted whole
+-- the blocks of a number of bytes, the last one counted whole
 abbrev pub blocks_of : ℕ → ℕ
 blocks_of size = (size + (block_bytes - 1)) / block_bytes
 

@@ -14,7 +14,7 @@ use Rattle.snap_layer.specs.declared.node.Body.TheVariants as body_kinds
 use Rattle.snap_layer.specs.Tree.{Tree, Entries, Bodies, path_cmp, at, body, number_at, leaf_node, is_whiteout, IsDirAt}
 use Rattle.snap_layer.specs.Counts.{name_count, default_inodes}
 
--- the layer of the root alone, which may have so many inodes, and whose first file gets the number
+-- the layer of the root alone, which may have at most this number of inodes, and whose first file gets the number
 abbrev pub root_within : ℕ → Meta → ℕ → Tree
 root_within most meta first = record { entries = ([], Dir meta false) ∷ []; bodies = []; next = first; most = most }
 

@@ -155,7 +155,7 @@ abbrev pub targets_whiteout : Target → Bool
 targets_whiteout target.Whiteout = true
 targets_whiteout (target.Inode c) = false
 
--- the text of the entry's path has at most so many bytes
+-- the text of the entry's path has at most this number of bytes
 abbrev pub is_text_within : ℕ → Names × Node → Bool
 is_text_within most e = nat_le (length (text_below e.0)) most
 

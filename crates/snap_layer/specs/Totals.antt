@@ -29,11 +29,11 @@ IsCounted v t = Counts v t × IsLayer t
 abbrev pub IsClear : Tree → Names → Type 0
 IsClear t p = (n : List ℕ) → IsFree (at t (p ++ n ∷ []))
 
--- so many numbers and inodes fit in place of what stands at the path
+-- these numbers and inodes fit in place of what stands at the path
 abbrev pub fits : Tree → Names → ℕ → ℕ → Bool
 fits t p numbers inodes = nat_le (inode_count (without t p) + inodes) t.most && nat_le (t.next + numbers) most_number
 
--- what a layer takes with so many inodes and blocks in place of what stands at the path; each inode has a path
+-- what a layer takes with these inodes and blocks in place of what stands at the path; each inode has a path
 pub record IsRoom (v : Totals) (t : Tree) (p : Names) (i b : ℕ) : Type 0 where
   pub inodes : v.inodes ≡ inode_count (without t p) + i
   pub blocks : v.blocks ≡ block_count (without t p) + b

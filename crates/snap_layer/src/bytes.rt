@@ -18,7 +18,7 @@ pub enum Edit<'a> {
     /// The bytes are put at the offset, over a gap of zero bytes where it lies behind the end. No bytes change
     /// nothing. Of a file of a size, that alone is kept: the greater of its own and where the bytes end.
     Write { offset: usize, bytes: &'a [u8] },
-    /// The file is cut, or filled with zero bytes, to so many. Of a file of a size, the new one alone is kept; its own
+    /// The file is cut, or filled with zero bytes, to this size. Of a file of a size, only the new one is kept; its own
     /// changes nothing.
     Resize { size: usize },
 }
@@ -125,7 +125,7 @@ fn overwrite(items: &mut [u8], offset: usize, bytes: &[u8])
     items[offset..offset + bytes.len()].copy_from_slice(bytes);
 }
 
-/// Cuts to so many, and gives the memory of the others back, or fills up with zero bytes. A cut doesn't fail.
+/// Cuts to the size, and gives the memory of the others back, or fills up with zero bytes. A cut doesn't fail.
 pub(crate) fn resize(items: &mut Vec<u8>, size: usize) -> Result<(), AllocError>
     ensures ok { OnOk result (items.new.items ≡ bytes_resized items.old.items size) }
     // A cut gives memory back: all of it where no byte is left.

@@ -42,10 +42,10 @@ impl Layer {
         Ok(())
     }
 
-    /// Adds a directory for each meta, none of them opaque, at the names of the path that come after so many: the first
+    /// Adds a directory for each meta, none of them opaque, at the path's names after the first `front`: the first
     /// where nothing stands, and each other one in the one before it.
     ///
-    /// The conditions: a directory stands at the path of the first so many names, and nothing at that of one name more;
+    /// The conditions: a directory stands at the path of the first `front` names, and nothing at that of one name more;
     /// the path has a name for each meta; and each mode is at most octal 7777. `LayerFull` where the layer would have
     /// more inodes than it may. `OutOfMemory` where memory is refused. After either the layer is as it was: what had
     /// been added is taken back, which takes no memory. Cost: as `at` for as many names, however many directories are
@@ -205,9 +205,9 @@ impl Layer {
         self.take_front(path, path.names().len());
     }
 
-    /// Takes what stands at the path of the first so many names of a path, as `take_name` does.
+    /// Takes what stands at the path of the first `front` names of a path, as `take_name` does.
     ///
-    /// The conditions are that the path has as many, and those of `is_takeable` for the path of so many. Takes no
+    /// The conditions are that the path has as many, and those of `is_takeable` for their path. Takes no
     /// memory. Cost: as `take_name`.
     pub fn take_front(&mut self, path: &Path, front: usize)
         requires within { front ≤ length path.now }
@@ -305,7 +305,7 @@ impl Layer {
     /// Edits a file in place, for all its names.
     ///
     /// The conditions are that the number is a regular file's, and that what is written ends at its `most_bytes` at
-    /// the most, or that the file is to have at most so many. It fails only where memory for more bytes is refused,
+    /// the most, or that the file is to have no more than that. It fails only where memory for more bytes is refused,
     /// and the layer is then as it was: a write within the file's size takes none, a cut gives some back, and a file
     /// of a size takes none. Cost: the logarithm of the number of files, and the bytes that are written; where the
     /// file grows, in one growth of several also its bytes; where it is cut, those that are left.
@@ -367,7 +367,7 @@ impl Layer {
         self.table.raise(next);
     }
 
-    /// What the layer takes once something that takes so much stands at the path in place of what stands there:
+    /// What the layer takes once something that takes these stands at the path in place of what stands there:
     /// `LayerFull` where that would pass a limit.
     fn room_for(
         &self,
@@ -409,7 +409,7 @@ impl Layer {
         self.table.set_dir(path, meta, opaque);
     }
 
-    /// Gives the file with the number, which has the meta and takes so many blocks, another content.
+    /// Gives the file with the number, which has the meta and takes `freed` blocks, another content.
     fn fill(&mut self, number: u32, meta: Meta, freed: u64, content: Content)
         requires there { (old : ContentValue) × (freed ≡ body_blocks (Body.File meta old)) × (body self.old number ≡ Some (Body.File meta old)) }
         requires content { IsContent content }

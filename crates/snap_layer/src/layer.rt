@@ -65,7 +65,7 @@ impl Layer {
         Layer::empty_from(alloc, meta, 1)
     }
 
-    /// The same, of a layer that may have so many inodes, the root's one among them.
+    /// The same, of a layer that may have at most `most` inodes, the root's one among them.
     ///
     /// The conditions are a mode of at most octal 7777, and 1 to 16,777,216 inodes. It fails only where memory is
     /// refused, and takes the same for each number of inodes. The cost is constant.
@@ -89,7 +89,7 @@ impl Layer {
         Layer::root_alone(alloc, meta, first, DEFAULT_LAYER_INODES)
     }
 
-    /// The layer of an empty root directory, which may have so many inodes, and whose first file gets the number.
+    /// The layer of an empty root directory, with at most `most` inodes, whose first file gets the number.
     fn root_alone(alloc: Global, meta: Meta, first: u32, most: usize) -> Result<Layer, AllocError>
         requires meta { IsMeta meta }
         requires first { 1 ≤ first }
@@ -140,9 +140,9 @@ impl Layer {
         self.table.at(path)
     }
 
-    /// What stands at the path of the first so many names of a path.
+    /// What stands at the path of the first `names` names of a path.
     ///
-    /// The condition is that the path has as many. Takes no memory. Cost: as `at`, for so many names.
+    /// The condition is that the path has as many. Takes no memory. Cost: as `at`, for these names.
     pub fn at_front(&self, path: &Path, names: usize) -> Option<Node>
         requires { names ≤ length path.now }
         ensures { result ≡ at self.now (take names path.now) }
@@ -244,7 +244,7 @@ impl Layer {
         self.left_front(path, path.names().len())
     }
 
-    /// The same at the path of the first so many names of a path.
+    /// The same at the path of the first `front` names of a path.
     pub(crate) fn left_front(&self, path: &Path, front: usize) -> Totals
         requires within { front ≤ length path.now }
         requires clear { IsClear self.now (take front path.now) }
@@ -289,7 +289,7 @@ impl Layer {
         )
     }
 
-    /// The inodes and blocks of the file or symlink that has its last name at the path of the first so many names, where
+    /// The inodes and blocks of the file or symlink whose last name is at the path of the first `front` names, where
     /// the node stands: none where there is none.
     fn last_body(&self, path: &Path, front: usize, node: Option<Node>) -> (usize, u64)
         requires node { node ≡ at self.now (take front path.now) }

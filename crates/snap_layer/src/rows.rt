@@ -178,7 +178,7 @@ pub(crate) struct Row<'a> {
     pub(crate) node: Node,
 }
 
-/// A walk through the entries below a path, in order. It has room in itself for so many inodes on the way, and takes
+/// A walk through the entries below a path, in order. It has room in itself for `ROOM` inodes on the way, and takes
 /// memory for more: with `MOST_FRAMES` never.
 ///
 /// Contracts see it as `Progress`: the path below which it goes, the path that came last, and the list of the

@@ -63,7 +63,7 @@ impl Model for Table {
 }
 
 impl Table {
-    /// The layer of the root alone, which may have so many inodes.
+    /// The layer of the root alone, which may have at most `most` inodes.
     pub fn new(alloc: Global, meta: Meta, first: u32, most: usize) -> Result<Table, AllocError>
         requires meta { IsMeta meta }
         requires first { 1 ≤ first }
@@ -115,7 +115,7 @@ impl Table {
         stands(&self.slots, self.root, path.names())
     }
 
-    /// What stands at the path of the first so many names of a path.
+    /// What stands at the path of the first `names` names of a path.
     pub fn at_front(&self, path: &Path, names: usize) -> Option<Node>
         requires { names ≤ length path.now }
         ensures { result ≡ at self.now (take names path.now) }
@@ -183,7 +183,7 @@ impl Table {
         put_inode(&mut self.slots, dir, name, inode)
     }
 
-    /// Puts a directory for each meta, one in the other, at the names of the path that come after so many.
+    /// Puts a directory for each meta, one in the other, at the names of the path that come after the first `front`.
     pub fn put_dirs(&mut self, path: &Path, front: usize, metas: &[Meta]) -> Result<(), AllocError>
         requires within { front ≤ length path.now }
         requires dir { IsDirAt (at self.old (take front path.now)) }
@@ -309,7 +309,7 @@ impl Table {
         self.take_front(path, path.names().len());
     }
 
-    /// The same at the path of the first so many names of a path.
+    /// The same at the path of the first `front` names of a path.
     pub fn take_front(&mut self, path: &Path, front: usize)
         requires within { front ≤ length path.now }
         requires takeable { IsTakeable self.old (take front path.now) }

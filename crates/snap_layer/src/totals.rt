@@ -14,7 +14,7 @@ pub(crate) struct Totals {
     pub(crate) paths: usize,
 }
 
-/// The number of paths with so many more: one or none. It fails only at the last address.
+/// The number of paths with `more` more: one or none. It fails only at the last address.
 pub(crate) fn more_paths(paths: usize, more: usize) -> Result<usize, AllocError>
     requires { more ≤ 1 }
     ensures ok { IfOk result (λ n. n ≡ paths + more) }
@@ -26,7 +26,7 @@ pub(crate) fn more_paths(paths: usize, more: usize) -> Result<usize, AllocError>
     }
 }
 
-/// The number of paths with one more for each of so many. It fails only at the last address.
+/// The number of paths with one more `many` times. It fails only at the last address.
 pub(crate) fn paths_with(paths: usize, many: usize) -> Result<usize, AllocError>
     ensures { IfOk result (λ n. n ≡ paths + many) }
 {

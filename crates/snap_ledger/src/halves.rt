@@ -132,7 +132,7 @@ impl<N: StoreName> Share<N> {
 }
 
 impl<N: StoreName> Charge<N> {
-    /// The free charges of so many slots from 0 on, in order. It takes memory for them, which grows
+    /// The free charges of the slots from 0 on, in order. It takes memory for them, which grows
     /// with their number, and for the table's shared place; the error says that there was none, and
     /// nothing is left then.
     pub fn row(alloc: Global, table: NewTable, slots: u64) -> Result<Vec<Charge<N>>, AllocError>

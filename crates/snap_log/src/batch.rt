@@ -8,7 +8,7 @@ use std::alloc::{AllocError, Global};
 use std::marker::Model;
 
 /// The whole lines of an input that comes in pieces. A line in pieces is held back. Blanks before a line are let go, and
-/// of a line that is too long all bytes behind so many.
+/// of a line that is too long all bytes behind the most.
 #[derive(Drop)]
 pub struct Batch {
     limit: usize,
@@ -27,7 +27,7 @@ impl Model for Batch {
 }
 
 impl Batch {
-    /// No byte has come. Of each line at most so many bytes are kept. Takes no memory.
+    /// No byte has come. Of each line at most `limit` bytes are kept. Takes no memory.
     pub fn new(alloc: Global, limit: usize) -> Batch
         ensures { result ≡ none_yet limit }
     {

@@ -11,7 +11,7 @@ use crate::scan::Scan;
 use sqlite_disk::Disk;
 use std::io;
 
-// So many bytes are read at once.
+// The number of bytes that are read at once.
 const CHUNK: usize = 16384;
 
 // Reads the bytes that come next, as many as the buffer has.
@@ -35,7 +35,7 @@ fn scan_next<D: Disk>(disk: &mut D, buf: &mut [u8], scan: &mut Scan) -> io::Resu
     Ok(())
 }
 
-// How many bytes the file's text has, of a file that has so many.
+// How many bytes the file's text has, of a file of `len` bytes.
 fn text_len<D: Disk>(disk: &mut D, len: usize) -> io::Result<usize>
     requires usable { IsTrue (D.Disk.is_usable disk.old) }
     ensures end { IfOk result (λ end. IsTrue (D.Disk.is_clean disk.new) → len ≡ length (D.Disk.seen disk.old) → end ≡ length (log_text (D.Disk.seen disk.old))) }
@@ -55,7 +55,7 @@ fn text_len<D: Disk>(disk: &mut D, len: usize) -> io::Result<usize>
     Ok(scan.end)
 }
 
-// Whether a closed gate stands at this byte of a file that has so many.
+// Whether a closed gate stands at this byte of a file of `len` bytes.
 fn has_gate<D: Disk>(disk: &mut D, len: usize, at: usize) -> io::Result<bool>
     requires usable { IsTrue (D.Disk.is_usable disk.old) }
     ensures is { IfOk result (λ is. IsTrue (D.Disk.is_clean disk.new) → len ≡ length (D.Disk.seen disk.old)
@@ -89,7 +89,7 @@ fn begin<D: Disk>(disk: &mut D) -> io::Result<()>
     disk.sync()
 }
 
-// How many bytes the text of a file has that has so many, if it is a log; a new one gets its first closed gate.
+// How many bytes the text of a file of this size has, if it is a log; a new one gets its first closed gate.
 fn settle_read<D: Disk>(disk: &mut D, len: usize) -> Result<usize, OpenError>
     requires usable { IsTrue (D.Disk.is_usable disk.old) }
     requires synced { Only (D.Disk.seen disk.old) (D.Disk.may_leave disk.old) }

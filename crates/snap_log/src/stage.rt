@@ -75,7 +75,7 @@ fn too_large() -> io::Error {
     io::ErrorKind::FileTooLarge.into()
 }
 
-// Adds lines behind a text that has so many bytes.
+// Adds lines behind a text of this number of bytes.
 pub(crate) fn add<D: Disk>(disk: &mut D, end: usize, lines: &[u8]) -> Result<(), StageError>
     requires usable { IsTrue (D.Disk.is_usable disk.old) }
     requires lines { AreLines lines.now }

@@ -14,7 +14,7 @@ no_sum = replicate 32 0
 abbrev pub no_sums : Sums
 no_sums = record { lines = no_sum; answers = no_sum; told = no_sum; read = 0; agreed = 0; differs = None; ends = true }
 
--- the number of the line after so many; the numbers end at 2^64 - 1
+-- the number of the line after this number of lines; the numbers end at 2^64 - 1
 abbrev pub next_read : ℕ → ℕ
 next_read read = min (read + 1) (2 ^ 64 - 1)
 

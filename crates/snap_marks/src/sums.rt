@@ -43,7 +43,7 @@ pub struct Sums {
     pub ends: bool,
 }
 
-// The number of the line after so many.
+// The number of the line after this number of lines.
 fn next_read(read: u64) -> u64
     ensures { result ≡ next_read read }
 {

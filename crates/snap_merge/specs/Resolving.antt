@@ -54,7 +54,7 @@ way follow s place (w ∷ ws) =
     else if is_too_long place w then Err BadPath
     else entered (λ target. follow (start_of place target) (words_of target ++ ws)) (way follow s (place ++ w ∷ []) ws) (seen s (place ++ w ∷ []))
 
--- the way from a symlink's start, where so many symlinks may still be followed
+-- the way from a symlink's start, where this number of symlinks may still be followed
 abbrev pub following : ℕ → List Tree → Names → Names → Answer
 following zero s place ws = Err TooManyLinks
 following (suc k) s place ws = way (following k s) s place ws

@@ -89,7 +89,7 @@ abbrev pub part_in : ℕ → Row → List ℕ → Option Part
 part_in place [] n = None
 part_in place (d ∷ ds) n = part_over_dir place d n (part_in (suc place) ds n)
 
--- what is seen in the directory and below it, at so many names in a row at the most
+-- what is seen in the directory and below it, at this number of names in a row at the most
 unfoldable pub parts_in : ℕ → Row → List Part
 parts_in zero r = []
 parts_in (suc k) r = flat_map (λ n. with_inside (parts_in k (row_at r n)) (part_in 0 r n)) (names_in r)

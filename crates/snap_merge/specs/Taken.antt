@@ -47,7 +47,7 @@ with_inside inside None = []
 with_inside inside (Some parts.Dir) = parts.Dir ∷ inside
 with_inside inside (Some (parts.File f)) = parts.File f ∷ []
 
--- what is seen at the path and below it, at so many names in a row at the most
+-- what is seen at the path and below it, at this number of names in a row at the most
 unfoldable pub parts_below : ℕ → List Tree → Names → List Part
 parts_below zero s p = []
 parts_below (suc n) s p = with_inside (flat_map (λ name. parts_below n s (p ++ name ∷ [])) (names s p)) (part 0 s p)

@@ -45,7 +45,7 @@ pub enum FsError {
     /// The upper layer would have too many inodes, or its file numbers are used up (ENOSPC).
     #[error("the layer is full")]
     LayerFull,
-    /// The upper layer would take so much, which its charge doesn't cover.
+    /// The upper layer would take this usage, which its charge doesn't cover.
     #[error("a charge of {0} is needed")]
     NeedsCharge(Usage),
     /// More symlinks than may be followed (ELOOP).

@@ -37,7 +37,7 @@ pub(crate) struct Reach<'a> {
 pub(crate) enum Step<'a> {
     /// It leads no further, whatever the layers below have.
     Ends(Reach<'a>),
-    /// It leads through so many directories, and the layers below say where to from there.
+    /// It leads through this number of directories, and the layers below say where to from there.
     GoesOn(usize),
 }
 
@@ -63,7 +63,7 @@ struct Trace<'a> {
     dir: Option<Dir<'a>>,
 }
 
-/// How far the names lead in the lower layers, after so many directories that the layers above have. A layer is
+/// How far the names lead in the lower layers, after the directories that the layers above have. A layer is
 /// left at the first name that it doesn't have, and the layers below it are not asked where it hides them.
 pub(crate) fn reach_below<'a>(lowers: &'a [Shared], names: &[Name], dirs: usize) -> Reach<'a>
     requires { dirs ≤ length names.now }
@@ -79,7 +79,7 @@ pub(crate) fn reach_below<'a>(lowers: &'a [Shared], names: &[Name], dirs: usize)
     Reach { dirs, seen: None }
 }
 
-/// What the layer adds, after so many directories that the layers above it have.
+/// What the layer adds, after the directories that the layers above it have.
 pub(crate) fn step_through<'a>(layer: &'a Layer, names: &[Name], dirs: usize) -> Step<'a>
     requires { dirs ≤ length names.now }
     ensures { Steps layer.now names.now dirs result }

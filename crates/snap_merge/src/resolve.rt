@@ -21,7 +21,7 @@ use snap_path::{Name, Path, PathError};
 use std::alloc::{AllocError, Global};
 use std::marker::Model;
 
-/// A way of at most so many words takes no memory for them.
+/// A way of at most this number of words takes no memory for them.
 const INLINE_WORDS: usize = 16;
 
 /// How far a way was gone.

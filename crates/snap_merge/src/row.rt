@@ -15,7 +15,7 @@ use snap_path::{Name, Path};
 use std::alloc::{AllocError, Global};
 use std::collections::BTreeSet;
 
-/// A row of at most so many directories takes no memory.
+/// A row of at most this number of directories takes no memory.
 const INLINE_DIRS: usize = 16;
 
 /// The meta of a directory that isn't there.
@@ -41,7 +41,7 @@ impl<'a> Stack<'a> {
         Ok(rows)
     }
 
-    /// The metas of the directories that are seen above the path, from that of its first so many names on; one of
+    /// The metas of the directories that are seen above the path, from that of its first `front` names on; one of
     /// mode 0 where none is seen.
     ///
     /// The condition is that the path has as many names. It fails only where memory is refused. Cost: one walk to the

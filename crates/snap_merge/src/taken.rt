@@ -228,7 +228,7 @@ fn part_here(place: u64, dir: &Option<Dir<'_>>, name: &Name) -> Option<Option<Pa
     }
 }
 
-/// Puts what is seen in the directory that has the row last, and what is below it, at so many names in a row at the
+/// Puts what is seen in the directory that has the row last, and what is below it, at `most` names in a row at the
 /// most.
 #[cycle(put_inside)]
 #[tactic(auto, unfolding(crate::specs::Row::parts_in))]

@@ -1,4 +1,4 @@
-//! Want of memory, as a value that only an allocator's refusal makes.
+//! Want of memory: made of an allocator's refusal, and for a count at the last address.
 ghost use Rattle.std.specs.Prelude.{◌≡◌, ◌≤◌, ◌+◌, ◌^◌};
 ghost use Rattle.snap_path.specs.Memory.{no_memory};
 
@@ -7,7 +7,8 @@ use thiserror::Error;
 
 /// An allocator refused memory.
 ///
-/// The field is private, so there is no way to one but from an error that a call of `std` answered.
+/// The field is private, so one is made of an error that a call of `std` answered, or, where its contract lets it,
+/// by [`NoMemory::of_last_address`].
 #[derive(Clone, Copy, Debug, PartialEq, Eq, Error)]
 #[error("out of memory")]
 pub struct NoMemory {

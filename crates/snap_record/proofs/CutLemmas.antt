@@ -36,7 +36,7 @@ rest_to (b ∷ bs) (suc n) at none =
     ap (λ rest. b ∷ rest) (rest_to bs n (omega arith, λ low. at.1 (omega arith)) (λ i low here. none (suc i) (omega arith) (omega arith, λ inside. here.1 (omega arith))))
     ∙ sym (ap (λ inner. if inner then b ∷ rest_of_character bs else []) (inner_at b (λ begins. none 0 (omega arith) (omega arith, λ inside. begins))))
 
--- a text is cut at the first boundary above so many bytes
+-- a text is cut at the first boundary above this number of bytes
 pub cut_at : (bs : Bytes) (most n : ℕ) → most < n → IsCharBoundary bs n → ((i : ℕ) → most + 1 ≤ i → i < n → ¬ (IsCharBoundary bs i)) → take n bs ≡ cut most bs
 unfolding cut
 cut_at [] most zero low at none = refl

@@ -1,4 +1,4 @@
--- What is kept of texts and labels that are beyond their limits: so much that they are beyond them still.
+-- What is kept of texts and labels that are beyond their limits: enough that they are beyond them still.
 use Rattle.std.specs.Prelude.{ℕ, zero, suc, Bool, not, ◌&&◌, nat_le, nat_lt, if◌then◌else◌, [], ◌∷◌, List, find}
 use Rattle.std.specs.List.{list_all}
 use Rattle.std.specs.Option.{option_map_or}
@@ -14,7 +14,7 @@ abbrev pub rest_of_character : Bytes → Bytes
 rest_of_character [] = []
 rest_of_character (b ∷ bs) = if is_inner b then b ∷ rest_of_character bs else []
 
--- a text of at most so many bytes as it is; of a longer one so many bytes, one more, and the rest of that one's character
+-- a text of at most this number of bytes as it is; of a longer one this number, one more, and the rest of that one's character
 unfoldable pub cut : ℕ → Bytes → Bytes
 cut most [] = []
 cut zero (b ∷ bs) = b ∷ rest_of_character bs

@@ -7,10 +7,10 @@ use crate::text::Text;
 use std::alloc::{AllocError, Global};
 use std::marker::Model;
 
-/// At most so many labels belong to a snapshot.
+/// At most this number of labels belong to a snapshot.
 pub const MAX_LABELS: usize = 64;
 
-/// The key and the value of a label have at most so many bytes together.
+/// The key and the value of a label have at most this number of bytes together.
 pub const MAX_LABEL_BYTES: usize = 4096;
 
 /// Labels: values of distinct keys, in the order in which the keys were first inserted. It keeps
@@ -156,7 +156,7 @@ impl Labels {
         Ok(())
     }
 
-    /// A copy with room for so many more labels.
+    /// A copy with room for `more` more labels.
     pub(crate) fn copy_with_room(&self, more: usize) -> Result<Labels, AllocError>
         ensures copied { IfOk result (λ copy. copy ≡ self.now) }
         ensures distinct { IfOk result HasDistinctKeys }

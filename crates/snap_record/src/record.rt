@@ -15,7 +15,7 @@ use std::alloc::AllocError;
 pub enum Content {
     /// A view has no layer of its own, but the layers that it shows, nearest first.
     View { layers: Sequence<Shared> },
-    /// An active snapshot has one of the slots of its store, counted from 0, and its namespace is charged so much for it.
+    /// An active snapshot has one of the slots of its store, counted from 0, and what its namespace is charged for it.
     Active { slot: u64, charged: Usage },
     /// A committed snapshot has its layer, and the usage that was counted when it was committed.
     Committed { layer: Shared, usage: Usage },

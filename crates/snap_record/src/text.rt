@@ -49,7 +49,7 @@ impl Text {
         })
     }
 
-    /// Cuts a text of more than so many bytes: its first so many stay, one more, and the rest of that one's character, so
+    /// Cuts a text of more than `most` bytes: its first `most` stay, one more, and the rest of that one's character, so
     /// that it is too long still. Takes memory only for these bytes; fails only where it is wanting, and then the text is
     /// as it was. The cost grows with them.
     #[tactic(auto, using(crate::proofs::CutLemmas::cut_within))]

@@ -134,7 +134,7 @@ free_names k (Some (node.File j)) free = absurd (cc)
 free_names k (Some (node.Symlink j)) free = absurd (cc)
 free_names k (Some node.Whiteout) free = refl
 
--- one inode more at the path, but for a whiteout that goes, so many blocks, and no name of another number
+-- one inode more at the path, but for a whiteout that goes, these blocks, and no name of another number
 record Adds (t v : Tree) (p : Names) (many : ℕ) (numbered : Bool) : Type 0 where
   inodes : inode_count v + (if is_whiteout_at (at t p) then 1 else 0) ≡ inode_count t + 1
   blocks : block_count v ≡ block_count t + many

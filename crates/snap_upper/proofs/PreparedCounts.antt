@@ -37,7 +37,7 @@ use Rattle.snap_upper.proofs.Left.{Keeps, left_inodes, left_blocks}
 use Rattle.snap_upper.proofs.Prepared.{IsCopy, lower_copy, longer_out, own_copy}
 use Rattle.snap_upper.proofs.Taken.{front_out}
 
--- the layer t takes so much without what stands at the path
+-- the layer t takes this usage without what stands at the path
 pub record LeavesSo (t : Tree) (p : Names) (inodes blocks : ℕ) : Type 0 where
   pub inodes_are : inode_count (without t p) ≡ inodes
   pub blocks_are : block_count (without t p) ≡ blocks

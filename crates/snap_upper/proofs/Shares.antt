@@ -52,7 +52,7 @@ share_needs share o need plan h =
     let next = planned_ok o need plan in
     ap (within_share share) next.1 ∙ uncovered share next.0 (λ c. h (subst (Covers share) next.2 c)) ∙ ap (λ (x : Usage). Err (NeedsCharge x)) next.2
 
--- so much is asked for exactly where it is the next layer's count and the share doesn't cover it
+-- this count is asked for exactly where it is the next layer's count and the share doesn't cover it
 needed : (share : Usage) (o : Outcome) (need : Usage) → (o ≡ Err (NeedsCharge need) → ⊥) → within_share share o ≡ Err (NeedsCharge need) → (planned o ≡ Ok (record { after = need })) × (Covers share need → ⊥)
 needed share (Ok t) need never e = by (covers share (count_of t)) refl e
   where

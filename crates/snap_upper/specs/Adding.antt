@@ -14,7 +14,7 @@ use Rattle.snap_merge.specs.Walk.{walk_error}
 use Rattle.snap_copyup.specs.declared.parents.Last.{Last}
 use Rattle.snap_copyup.specs.declared.parents.Last.TheVariants.{Nothing, Dir, File, Symlink, Whiteout}
 
--- it takes an inode, so many blocks, and the next file number or none
+-- it takes an inode, these blocks, and the next file number or none
 abbrev pub Takes : Last → ℕ → Bool → Type 0
 Takes Nothing blocks numbered = ⊥
 Takes (Dir meta opaque) blocks numbered = (blocks ≡ 1) × (numbered ≡ false)
@@ -48,7 +48,7 @@ pub record IsPlaceable (u : Tree) (ls : List Tree) (from to : Names) : Type 0 wh
   pub not_around : begins to from ≡ false
   pub clear : (n : List ℕ) → IsFree (at u (to ++ n ∷ []))
 
--- the next layer t of u takes so much, with one file number more or none and the same most inodes, and it is a layer where it is within the limits
+-- the next layer t of u takes this usage, with one file number more or none and the same most inodes, and it is a layer where it is within the limits
 pub record IsNext (u t : Tree) (usage : Usage) (numbered : Bool) : Type 0 where
   pub inodes : usage.inodes ≡ inode_count t
   pub blocks : usage.blocks ≡ block_count t

@@ -182,7 +182,7 @@ abbrev pub planned : Outcome → Result Planned FsError
 planned (Ok t) = Ok (record { after = count_of t })
 planned (Err e) = Err e
 
--- the outcome of an operation that may fill the share and no more: the next layer, where the share covers its count in both quantities, else so much has to be charged. An error stays
+-- the outcome of an operation that may fill the share and no more: the next layer, where the share covers its count in both quantities, else that count has to be charged. An error stays
 abbrev pub within_share : Usage → Outcome → Outcome
 within_share share (Ok next) = if covers share (count_of next) then Ok next else Err (NeedsCharge (count_of next))
 within_share share (Err e) = Err e

@@ -52,7 +52,7 @@ pub(crate) enum Change<'a> {
         path: &'a Path,
         new: New<'a>,
     },
-    /// The layer's own file with the number, which has so many bytes, is edited.
+    /// The layer's own file with the number, which has this number of bytes, is edited.
     Fill {
         number: u32,
         size: u64,

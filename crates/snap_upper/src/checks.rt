@@ -97,7 +97,7 @@ pub(crate) fn check_write(
     Ok(old.size())
 }
 
-/// Tests whether the file at the path can be given so many bytes, and gives the file's size.
+/// Tests whether the file at the path can be given `size` bytes, and gives the file's size.
 pub(crate) fn check_truncate(stack: &Stack<'_>, path: &Path, size: u64) -> Result<u64, FsError>
     ensures error { result_err result ≡ first_error (tests (op.Truncate path.now size) stack.now) }
     ensures size { IfOk result (λ n. (m : Meta) (old : ContentValue) → seen stack.now path.now ≡ Some (file m old) → n ≡ size_of old) }

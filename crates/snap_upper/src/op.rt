@@ -23,7 +23,7 @@ pub enum Op {
         path: Path,
         mode: u32,
     },
-    /// Makes a regular file of so many bytes, at most 2^40, where nothing is seen. They aren't kept: the
+    /// Makes a regular file of this number of bytes, at most 2^40, where nothing is seen. They aren't kept: the
     /// digest says which they are, a text of at most 1024 bytes, or nothing does (OCI image specification,
     /// "Descriptors"). It gets the upper layer's next file number.
     Put {
@@ -41,7 +41,7 @@ pub enum Op {
         offset: u64,
         bytes: Bytes,
     },
-    /// Cuts a regular file to so many bytes, or fills it with zero bytes up to so many (truncate(2)). A file
+    /// Cuts a regular file to this number of bytes, or fills it with zero bytes up to it (truncate(2)). A file
     /// whose bytes aren't kept loses its digest where its size changes.
     Truncate {
         path: Path,

@@ -167,7 +167,7 @@ fn truncate<'a>(
     editing(layer, lowers, path, old, edit)
 }
 
-/// The edit of the regular file that is seen at the path and has so many bytes: of the layer's own, or of a lower
+/// The edit of the regular file that is seen at the path and has `size` bytes: of the layer's own, or of a lower
 /// one, which is copied up with the new content in place of its own.
 fn editing<'a>(
     layer: &Layer,

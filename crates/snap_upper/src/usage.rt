@@ -262,7 +262,7 @@ fn file_blocks(layer: &Layer, number: u32) -> u64
     }
 }
 
-/// How much the layer takes where what takes so many blocks, and a file number where `numbered` says so,
+/// How much the layer takes where what takes these blocks, and a file number where `numbered` says so,
 /// is put at the path, and the directories that are missing above it.
 fn plan_growth(layer: &Layer, path: &Path, blocks: u64, numbered: bool) -> Result<Planned, FsError>
     requires few { blocks ≤ most_file_blocks }
@@ -279,7 +279,7 @@ fn plan_growth(layer: &Layer, path: &Path, blocks: u64, numbered: bool) -> Resul
     fitting(layer, after, numbered)
 }
 
-/// The plan of a next layer that takes so much, with one file number more where `numbered` says so.
+/// The plan of a next layer that takes this usage, with one file number more where `numbered` says so.
 fn fitting(layer: &Layer, after: Usage, numbered: bool) -> Result<Planned, FsError>
     ensures { (next : Tree) → IsNext layer.now next after numbered → result ≡ planned (limited next) }
 {
@@ -294,7 +294,7 @@ fn fitting(layer: &Layer, after: Usage, numbered: bool) -> Result<Planned, FsErr
     Ok(Planned { after })
 }
 
-/// How much the layer takes where its file with the number, which has so many bytes, is edited.
+/// How much the layer takes where its file with the number, which has this number of bytes, is edited.
 fn plan_filling(layer: &Layer, number: u32, size: u64, edit: Edit<'_>) -> Result<Planned, FsError>
     requires there { (m : Meta) × (old : ContentValue) × (body layer.now number ≡ Some (body_kinds.File m old)) × (size ≡ size_of old) × IsShort edit old × IsContent (edited edit old) }
     ensures { result ≡ planned (limited (with_content layer.now (Some number) (edited edit.entry))) }

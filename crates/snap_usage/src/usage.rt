@@ -16,7 +16,7 @@ use std::fmt::Write;
 /// The most bytes of a usage's text: two numbers of 20 digits and a slash.
 const MAX_TEXT_BYTES: usize = 41;
 
-/// So many blocks of 4096 bytes, and so many inodes: the two quantities of containerd's
+/// A number of blocks of 4096 bytes, and of inodes: the two quantities of containerd's
 /// `snapshots.Usage`, with its size in blocks.
 #[derive(Clone, Copy, Debug, Default, PartialEq, Eq, Hash)]
 pub struct Usage {

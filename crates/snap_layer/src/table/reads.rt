@@ -58,7 +58,7 @@ fn has_number(node: Node, number: u32) -> bool
     }
 }
 
-/// The path of the first so many names of a path, and the name.
+/// The path of the first `names` names of a path, and the name.
 fn path_beside(path: &Path, names: usize, name: &Name) -> Result<Path, AllocError>
     requires names { names ≤ length path.now }
     requires short { length (text_below (take names path.now ++ name.now ∷ [])) ≤ most_path_bytes }
@@ -121,7 +121,7 @@ fn are_whiteouts(slots: &Slab<Inode>, target: Target) -> bool
     }
 }
 
-/// How many of the walk's first so many entries are names of the file number.
+/// How many of the walk's first `many` entries are names of the file number.
 fn names_of_rows<const ROOM: usize>(
     number: u32,
     many: usize,
@@ -270,7 +270,7 @@ impl Table {
         Ok(paths)
     }
 
-    /// How many of the first so many entries below the path are names of the file number. Where a walk is refused
+    /// How many of the first `many` entries below the path are names of the file number. Where a walk is refused
     /// memory, it begins again with room for all.
     fn names_among(&self, front: &[Name], number: u32, many: usize) -> usize
         ensures { (rest : Entries) → inside front.now self.now.entries ≡ own front.now (at self.now front.now) ++ rest → result ≡ name_count number (take many rest) }
@@ -416,7 +416,7 @@ impl Table {
         }
     }
 
-    /// Whether the texts of the paths at the front and below it have at most so many bytes. Where a walk is refused
+    /// Whether the texts of the paths at the front and below it have at most `most` bytes. Where a walk is refused
     /// memory, it begins again with room for all.
     fn has_texts_within(&self, front: &Path, most: usize) -> bool
         requires front { front.now ≡ [] → ⊥ }

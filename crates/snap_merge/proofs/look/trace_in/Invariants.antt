@@ -2,7 +2,7 @@ use Rattle.std.proofs.Common.{◌≡◌, ℕ, ◌<◌, true, Some, take}
 use Rattle.snap_layer.specs.Tree.{at, is_dir, hides, IsDirAt}
 use Rattle.snap_merge.proofs.look.trace_in.Given as goal
 
--- so many prefixes are directories, and the handle is that of the next one
+-- this number of prefixes are directories, and the handle is that of the next one
 abbrev pub invariant-loop-dirs : goal.invariant-loop-dirs
 invariant-loop-dirs l = record {
   spot : l.dir ≡ record { layer = l.layer; path = take l.dirs l.names };
