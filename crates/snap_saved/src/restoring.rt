@@ -25,9 +25,9 @@ use std::alloc::Global;
 /// The layer that has this saved form.
 ///
 /// `Malformed` names the first part found that no layer has there, and what is wrong with it: no layer has this saved
-/// form. Within a list the order of the paths is tested before all else. `OutOfMemory` where memory is refused. Nothing is left after an error. Takes the
-/// memory of the layer; the contents of files are taken from the parts. Cost: the texts of the paths, each name of
-/// them times the logarithm of a directory's entries.
+/// form. Within a list the order of the paths is tested before all else. `OutOfMemory` where memory is refused. Nothing
+/// is left after an error. Takes the memory of the layer; the contents of files are taken from the parts. Cost: the
+/// texts of the paths, each name of them times the logarithm of a directory's entries.
 pub fn restore(alloc: Global, parts: Saved) -> Result<Layer, RestoreError>
     ensures ok { IfOk result (λ l. saved l ≡ parts) }
     // A layer that was saved is restored.

@@ -22,6 +22,8 @@ mod paths;
 #[cfg(test)]
 mod records;
 #[cfg(test)]
+mod saved;
+#[cfg(test)]
 mod setup;
 #[cfg(test)]
 mod stacks;
