@@ -81,7 +81,7 @@ impl<N: StoreName> Book<N> {
     /// their writers' hands, with their ids and shares. It needs no place in the journal of the round that ends.
     ///
     /// `BadArgument` and `NumbersSpent` as for [`Book::next_round`], then `JournalFull` where the new journal
-    /// has not an entry for the end of each open snapshot and one more; the book is then as it was. No entry is
+    /// lacks an entry for the end of each open snapshot and one more; the book is then as it was. No entry is
     /// made. Takes no memory. The cost is that of dropping the entries of the round that ends.
     pub fn roll(&mut self, journal: u64) -> Result<(), Refusal>
         ensures answer { result ≡ roll_answer self.old.state journal }
