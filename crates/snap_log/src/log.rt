@@ -29,7 +29,7 @@ impl<D: Disk> Log<D> {
     ///
     /// `NotALog` or `Damaged` where it is none (`IsLog`): the file is then as it was. `Io` where a call of the disk
     /// failed; the file's text is then as it was. Syncs the file and reads it once, by 16 KiB; a file of no byte or one
-    /// gets its first closed gate, and is synced again. Takes no memory.
+    /// gets its first closed gate, and is synced again. Takes no memory but what the disk takes.
     pub fn open(mut disk: D) -> Result<Log<D>, OpenFailed<D>>
         requires usable { IsTrue (D.Disk.is_usable disk) }
         ensures text { IfOk result (λ log. IsHonest log → Keeps log (log_text (D.Disk.seen disk))) }
