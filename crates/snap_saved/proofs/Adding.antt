@@ -30,8 +30,8 @@ use Rattle.snap_layer.proofs.Paths.{path_cmp_total}
 use Rattle.snap_layer.proofs.Replacing.{HasPlace-from_room, other_name, with_node-free, without_nothing}
 use Rattle.snap_saved.specs.declared.dir.SavedDir.{SavedDir}
 use Rattle.snap_saved.specs.Values.{SavedFileValue}
-use Rattle.snap_saved.specs.Saved.{dir_path, dir_part, path_if, dirs_of, whiteouts_of, names_of, files_of, dir_meta, dir_opaque, saved}
-use Rattle.snap_saved.specs.Named.{IsVacant, AddsNames}
+use Rattle.snap_saved.specs.Saved.{dir_path, dir_part, path_if, dirs_of, whiteouts_of, file_names, files_of, dir_meta, dir_opaque, saved}
+use Rattle.snap_saved.specs.Named.{IsFreePath, AddsNames}
 use Rattle.snap_saved.proofs.Inserting.{insert_last, read_same, read_last}
 
 -- ---- what is read of an entry has its path
@@ -61,23 +61,23 @@ leaf_no_whiteout k (body_kinds.File meta content) p = refl
 leaf_no_whiteout k (body_kinds.Symlink target) p = refl
 
 -- the files of other entries, where each number that they have has the same names
-pub files_same : (es fs : Entries) (bs : Bodies) → ((j : ℕ) → names_of j fs ≡ names_of j es) → files_of fs bs ≡ files_of es bs
+pub files_same : (es fs : Entries) (bs : Bodies) → ((j : ℕ) → file_names j fs ≡ file_names j es) → files_of fs bs ≡ files_of es bs
 files_same es fs [] same = refl
 files_same es fs (b ∷ bs) same = λ i. record { number = b.0; body = b.1; names = same b.0 i } ∷ files_same es fs bs same i
 
-pub files_apart : (es fs : Entries) (bs : Bodies) (k : ℕ) → AllByRecursion (λ j. j ≡ k → ⊥) (keys_of bs) → ((j : ℕ) → (j ≡ k → ⊥) → names_of j fs ≡ names_of j es) → files_of fs bs ≡ files_of es bs
+pub files_apart : (es fs : Entries) (bs : Bodies) (k : ℕ) → AllByRecursion (λ j. j ≡ k → ⊥) (keys_of bs) → ((j : ℕ) → (j ≡ k → ⊥) → file_names j fs ≡ file_names j es) → files_of fs bs ≡ files_of es bs
 files_apart es fs [] k apart same = refl
 files_apart es fs (b ∷ bs) k apart same = λ i. record { number = b.0; body = b.1; names = same b.0 apart.0 i } ∷ files_apart es fs bs k apart.1 same i
 
 -- ---- the conditions of the edits
 
-pub room_from : (t : Tree) (p : Names) → IsVacant t p → HasRoom t p
+pub room_from : (t : Tree) (p : Names) → IsFreePath t p → HasRoom t p
 room_from t p vacant = record { free = subst IsFree (sym vacant.none) tt; above = vacant.above }
 
-pub place_from : (t : Tree) → IsLayer t → (p : Names) → IsVacant t p → HasPlace t p
+pub place_from : (t : Tree) → IsLayer t → (p : Names) → IsFreePath t p → HasPlace t p
 place_from t ok p vacant = HasPlace-from_room t p ok (room_from t p vacant)
 
-pub no_number : (t : Tree) (p : Names) (k : ℕ) → IsVacant t p → number_at t p ≡ Some k → ⊥
+pub no_number : (t : Tree) (p : Names) (k : ℕ) → IsFreePath t p → number_at t p ≡ Some k → ⊥
 no_number t p k vacant e = none (sym (ap (option_and_then number_of) vacant.none) ∙ e)
   where
     none : None ≡ Some k → ⊥
@@ -85,7 +85,7 @@ no_number t p k vacant e = none (sym (ap (option_and_then number_of) vacant.none
 
 -- ---- an entry more
 
-module _ (t : Tree) (ok : IsLayer t) (p : Names) (vacant : IsVacant t p) where
+module _ (t : Tree) (ok : IsLayer t) (p : Names) (vacant : IsFreePath t p) where
   root_same : (n : Node) → at (with_entry t p n) [] ≡ at t []
   root_same n = (Sets-with_entry t p n).others [] (λ e. vacant.above.below_root (sym e))
 
@@ -110,7 +110,7 @@ module _ (t : Tree) (ok : IsLayer t) (p : Names) (vacant : IsVacant t p) where
       λ i. record { meta = dir_meta (root i); opaque = dir_opaque (root i); dirs = dirs i; whiteouts = whiteouts i; files = files i; next = t.next; most = t.most }
 
   -- a name after the others of its number
-  pub name_added : (k : ℕ) (b : Body) → AllByRecursion (λ (q : Names). path_cmp q p ≡ Less) (names_of k t.entries) → AddsNames k t.entries (with_entry t p (leaf_node k b)).entries (p ∷ [])
+  pub name_added : (k : ℕ) (b : Body) → AllByRecursion (λ (q : Names). path_cmp q p ≡ Less) (file_names k t.entries) → AddsNames k t.entries (with_entry t p (leaf_node k b)).entries (p ∷ [])
   name_added k b before =
       let n : Node = leaf_node k b in
       record {
@@ -156,21 +156,21 @@ numbers_apart t ok k free = by t.bodies (found_each nat_cmp_total t.bodies ok.so
         (λ same. omega (arith, low, free, same), by bs a.1)
 
 -- such a number has no name
-pub nameless : (t : Tree) → IsLayer t → (k : ℕ) → t.next ≤ k → names_of k t.entries ≡ []
+pub nameless : (t : Tree) → IsLayer t → (k : ℕ) → t.next ≤ k → file_names k t.entries ≡ []
 nameless t ok k free = by t.entries (found_each path_cmp_total t.entries ok.sorted_paths)
   where
-    by : (es : Entries) → AllByRecursion (λ (e : Names × Node). lookup (is_at (path_cmp e.0)) t.entries ≡ Some e.1) es → names_of k es ≡ []
+    by : (es : Entries) → AllByRecursion (λ (e : Names × Node). lookup (is_at (path_cmp e.0)) t.entries ≡ Some e.1) es → file_names k es ≡ []
     by [] a = refl
     by (e ∷ es) a = here (has_number k e.1) refl (by es a.1)
       where
-        here : (h : Bool) → has_number k e.1 ≡ h → names_of k es ≡ [] → cons_option (path_if h e.0) (names_of k es) ≡ []
+        here : (h : Bool) → has_number k e.1 ≡ h → file_names k es ≡ [] → cons_option (path_if h e.0) (file_names k es) ≡ []
         here false is later = later
         here true is later =
             let low : k < t.next = (ok.numbers k (has_body t ok e.0 k (ap (option_and_then number_of) a.0 ∙ number_is k e.1 is))).1 in
             absurd (omega (arith, low, free))
 
 -- a vacant place stays one where the next number is raised
-pub vacant_raised : (t : Tree) (k : ℕ) (p : Names) → IsVacant t p → IsVacant (with_next t k) p
+pub vacant_raised : (t : Tree) (k : ℕ) (p : Names) → IsFreePath t p → IsFreePath (with_next t k) p
 vacant_raised t k p vacant = record { none = vacant.none; above = record { below_root = vacant.above.below_root; parent = vacant.above.parent } }
 
 -- a new file or symlink under a number that is free
@@ -178,10 +178,10 @@ pub record IsFirst (t u : Tree) (k : ℕ) (b : Body) (p : Names) : Type 0 where
   pub bodies : u.bodies ≡ t.bodies ++ (k, b) ∷ []
   pub named : AddsNames k t.entries u.entries (p ∷ [])
 
-pub first_put : (t u : Tree) (k : ℕ) (b : Body) (p : Names) → IsLayer t → IsLayer (with_next t k) → IsVacant t p → t.next ≤ k → u ≡ with_new (with_next t k) p (leaf_node k b) b → IsFirst t u k b p
+pub first_put : (t u : Tree) (k : ℕ) (b : Body) (p : Names) → IsLayer t → IsLayer (with_next t k) → IsFreePath t p → t.next ≤ k → u ≡ with_new (with_next t k) p (leaf_node k b) b → IsFirst t u k b p
 first_put t u k b p ok raised vacant free is =
     let put = is ∙ new_put (with_next t k) raised p (vacant_raised t k p vacant) b in
-    let before : AllByRecursion (λ (q : Names). path_cmp q p ≡ Less) (names_of k t.entries) = subst (AllByRecursion (λ (q : Names). path_cmp q p ≡ Less)) (sym (nameless t ok k free)) tt in
+    let before : AllByRecursion (λ (q : Names). path_cmp q p ≡ Less) (file_names k t.entries) = subst (AllByRecursion (λ (q : Names). path_cmp q p ≡ Less)) (sym (nameless t ok k free)) tt in
     record {
       bodies = ap (λ (x : Tree). x.bodies) put ∙ insert_last nat_cmp_total t.bodies k b (numbers_before t ok k free);
       named = subst (λ (es : Entries). AddsNames k t.entries es (p ∷ [])) (sym (ap (λ (x : Tree). x.entries) put)) (name_added t ok p vacant k b before);
@@ -197,20 +197,20 @@ last_there (e ∷ bs) k b = by (is_at (nat_cmp k) e.0) (last_there bs k b)
     by false later = later
 
 -- its names
-pub first_names : (t u : Tree) (k : ℕ) (p : Names) → IsLayer t → t.next ≤ k → AddsNames k t.entries u.entries (p ∷ []) → names_of k u.entries ≡ p ∷ []
+pub first_names : (t u : Tree) (k : ℕ) (p : Names) → IsLayer t → t.next ≤ k → AddsNames k t.entries u.entries (p ∷ []) → file_names k u.entries ≡ p ∷ []
 first_names t u k p ok free one = one.names ∙ ap (λ (l : List Names). l ++ p ∷ []) (nameless t ok k free)
 
 -- ---- names more
 
 pub AddsNames-none : (k : ℕ) (es : Entries) → AddsNames k es es []
-AddsNames-none k es = record { root = refl; dirs = refl; whiteouts = refl; names = sym (append-nil (names_of k es)); others = λ j apart. refl }
+AddsNames-none k es = record { root = refl; dirs = refl; whiteouts = refl; names = sym (append-nil (file_names k es)); others = λ j apart. refl }
 
 pub AddsNames-more : (k : ℕ) (es fs gs : Entries) (ps qs : List Names) → AddsNames k es fs ps → AddsNames k fs gs qs → AddsNames k es gs (ps ++ qs)
 AddsNames-more k es fs gs ps qs a b = record {
   root = b.root ∙ a.root;
   dirs = b.dirs ∙ a.dirs;
   whiteouts = b.whiteouts ∙ a.whiteouts;
-  names = b.names ∙ ap (λ (l : List Names). l ++ qs) a.names ∙ append_assoc (names_of k es) ps qs;
+  names = b.names ∙ ap (λ (l : List Names). l ++ qs) a.names ∙ append_assoc (file_names k es) ps qs;
   others = λ j apart. b.others j apart ∙ a.others j apart;
 }
 
@@ -224,12 +224,12 @@ pub file_added : (t u v : Tree) → IsLayer t → (k : ℕ) (b : Body) (first : 
     → saved v ≡ record (saved t) { files = files_of t.entries t.bodies ++ (record { number = k; body = b; names = first ∷ others }) ∷ []; next = v.next }
 file_added t u v ok k b first others free bodies most one more rest =
     let all : AddsNames k t.entries v.entries (first ∷ others) = AddsNames-more k t.entries u.entries v.entries (first ∷ []) others one more in
-    let names : names_of k v.entries ≡ first ∷ others = all.names ∙ ap (λ (l : List Names). l ++ (first ∷ others)) (nameless t ok k free) in
+    let names : file_names k v.entries ≡ first ∷ others = all.names ∙ ap (λ (l : List Names). l ++ (first ∷ others)) (nameless t ok k free) in
     let its : v.bodies ≡ t.bodies ++ (k, b) ∷ [] = ap (λ (x : Tree). x.bodies) rest ∙ bodies in
     let before : files_of v.entries t.bodies ≡ files_of t.entries t.bodies = files_apart t.entries v.entries t.bodies k (numbers_apart t ok k free) all.others in
     let files : files_of v.entries v.bodies ≡ files_of t.entries t.bodies ++ (record { number = k; body = b; names = first ∷ others }) ∷ [] =
     ap (files_of v.entries) its
-    ∙ map-append (λ (e : ℕ × Body). let f : SavedFileValue = record { number = e.0; body = e.1; names = names_of e.0 v.entries } in f) t.bodies ((k, b) ∷ [])
+    ∙ map-append (λ (e : ℕ × Body). let f : SavedFileValue = record { number = e.0; body = e.1; names = file_names e.0 v.entries } in f) t.bodies ((k, b) ∷ [])
     ∙ (λ i. before i ++ (record { number = k; body = b; names = names i }) ∷ []) in
     let room : v.most ≡ t.most = ap (λ (x : Tree). x.most) rest ∙ most in
     λ i. record { meta = dir_meta (all.root i); opaque = dir_opaque (all.root i); dirs = all.dirs i; whiteouts = all.whiteouts i; files = files i; next = v.next; most = room i }

@@ -16,7 +16,7 @@ use Rattle.snap_layer.specs.Tree.{Tree, Entries, path_cmp, at, is_dir, is_whiteo
 use Rattle.snap_layer.specs.Counts.{inode_count}
 use Rattle.snap_layer.specs.Layers.{IsLayer}
 use Rattle.snap_saved.specs.Values.{SavedFileValue}
-use Rattle.snap_saved.specs.Saved.{dir_part, path_if, dirs_of, whiteouts_of, names_of, files_of}
+use Rattle.snap_saved.specs.Saved.{dir_part, path_if, dirs_of, whiteouts_of, file_names, files_of}
 
 counted : (p : Node → Bool) (e : Names × Node) (es : Entries) → count_by p (values_of (e ∷ es)) ≡ cond (p e.1) 1 0 + count_by p (values_of es)
 counted p e es = sum_by-cons (λ n. cond (p n) 1 0) e.1 (values_of es)
@@ -69,5 +69,5 @@ all_dirs (e ∷ es) sorted root = counted is_dir e es ∙ by e.0 e.1 sorted.0 ro
 
 pub inodes_counted : (t : Tree) → IsLayer t → inode_count t ≡ length (dirs_of t.entries) + 1 + length (whiteouts_of t.entries) + length (files_of t.entries t.bodies)
 inodes_counted t ok =
-    let files : length (files_of t.entries t.bodies) ≡ length t.bodies = length-map t.bodies (λ (b : ℕ × Body). let f : SavedFileValue = record { number = b.0; body = b.1; names = names_of b.0 t.entries } in f) in
+    let files : length (files_of t.entries t.bodies) ≡ length t.bodies = length-map t.bodies (λ (b : ℕ × Body). let f : SavedFileValue = record { number = b.0; body = b.1; names = file_names b.0 t.entries } in f) in
     omega (arith, all_dirs t.entries ok.sorted_paths ok.root, whiteouts_counted t.entries, files)

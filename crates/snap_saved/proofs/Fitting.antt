@@ -23,9 +23,9 @@ use Rattle.snap_layer.specs.Edits.{with_entry}
 use Rattle.snap_layer.proofs.Looks.{split_number, split_path, Sets-with_entry}
 use Rattle.snap_saved.specs.declared.dir.SavedDir.{SavedDir}
 use Rattle.snap_saved.specs.Values.{SavedFileValue, SavedValue}
-use Rattle.snap_saved.specs.Saved.{dir_path, dirs_of, whiteouts_of, names_of, files_of, saved}
+use Rattle.snap_saved.specs.Saved.{dir_path, dirs_of, whiteouts_of, file_names, files_of, saved}
 use Rattle.snap_saved.specs.Named.{AddsNames}
-use Rattle.snap_saved.specs.Refusing.{Fits, FitsMore, IsBare, IsAkin, IsUnder, HasNext, HasNames}
+use Rattle.snap_saved.specs.Refusing.{LacksNode, LacksNodeWithRoom, HasDirsAlone, HasSameRoot, IsUnder, HasNext, HasNames}
 use Rattle.snap_saved.proofs.Counted.{inodes_counted}
 use Rattle.snap_saved.proofs.Once.{Has, bodies_back, no_some, stands_there}
 use Rattle.snap_saved.proofs.Adding.{first_names}
@@ -40,7 +40,7 @@ no_body k bs none some = by (subst (λ (l : Bodies). IsSome (lookup (is_at (nat_
 
 -- ---- directories
 
-module _ (u0 u t : Tree) (ok0 : IsLayer u0) (oku : IsLayer u) (okt : IsLayer t) (bare : IsBare u0) (akin : IsAkin u0 t) where
+module _ (u0 u t : Tree) (ok0 : IsLayer u0) (oku : IsLayer u) (okt : IsLayer t) (bare : HasDirsAlone u0) (akin : HasSameRoot u0 t) where
   module _ (ds : List SavedDir) (i : ℕ) (d : SavedDir) (lt : i < length ds) (at_i : d ≡ get_or ds i d) (whole : dirs_of t.entries ≡ ds) (was : saved u ≡ record (saved u0) { dirs = take i ds }) (sorted : IsStrictlySortedBy path_cmp (map dir_path ds)) where
     dirs_now : dirs_of u.entries ≡ take i ds
     dirs_now = ap (λ (s : SavedValue). s.dirs) was
@@ -64,7 +64,7 @@ module _ (u0 u t : Tree) (ok0 : IsLayer u0) (oku : IsLayer u) (okt : IsLayer t) 
         (λ k some. absurd (no_body k u.bodies bodies_now some))
         (λ k some q has. absurd (no_body k u.bodies bodies_now some))
 
-    pub dir_fits : FitsMore u t d.path (Dir d.meta d.opaque)
+    pub dir_fits : LacksNodeWithRoom u t d.path (Dir d.meta d.opaque)
     dir_fits =
         let its = dir_stands t okt d (subst (Has d) (sym whole) (has_at ds i d lt at_i)) in
         record {
@@ -102,7 +102,7 @@ module _ (u0 u t : Tree) (ok0 : IsLayer u0) (oku : IsLayer u) (okt : IsLayer t) 
         (λ k some. absurd (no_body k u.bodies no_bodies some))
         (λ k some q has. absurd (no_body k u.bodies no_bodies some))
 
-    pub whiteout_fits : FitsMore u t p Whiteout
+    pub whiteout_fits : LacksNodeWithRoom u t p Whiteout
     whiteout_fits =
         let its = whiteout_stands t okt p (subst (Has p) (sym whole) (has_at ps i p lt at_i)) in
         record {
@@ -119,14 +119,14 @@ module _ (u0 u t : Tree) (ok0 : IsLayer u0) (oku : IsLayer u) (okt : IsLayer t) 
 
 module _ (t : Tree) (ok : IsLayer t) where
   -- a saved file has its body and its names in its layer
-  pub file_reads : (f : SavedFileValue) → Has f (files_of t.entries t.bodies) → (body t f.number ≡ Some f.body) × (names_of f.number t.entries ≡ f.names)
+  pub file_reads : (f : SavedFileValue) → Has f (files_of t.entries t.bodies) → (body t f.number ≡ Some f.body) × (file_names f.number t.entries ≡ f.names)
   file_reads f has =
-      let found = has_mapped (λ (b : ℕ × Body). let g : SavedFileValue = record { number = b.0; body = b.1; names = names_of b.0 t.entries } in g) f t.bodies has in
+      let found = has_mapped (λ (b : ℕ × Body). let g : SavedFileValue = record { number = b.0; body = b.1; names = file_names b.0 t.entries } in g) f t.bodies has in
       let b = found.0 in
       let there : body t b.0 ≡ Some b.1 = has_all (λ (e : ℕ × Body). lookup (is_at (nat_cmp e.0)) t.bodies ≡ Some e.1) b t.bodies (found_each nat_cmp_total t.bodies ok.sorted_numbers) found.1 in
       let same = found.2 in (
         ap (λ (g : SavedFileValue). body t g.number) (sym same) ∙ there ∙ ap (λ (g : SavedFileValue). Some g.body) same,
-        ap (λ (g : SavedFileValue). names_of g.number t.entries) (sym same) ∙ ap (λ (g : SavedFileValue). g.names) same,
+        ap (λ (g : SavedFileValue). file_names g.number t.entries) (sym same) ∙ ap (λ (g : SavedFileValue). g.names) same,
       )
 
   -- a file or symlink has a name
@@ -135,20 +135,20 @@ module _ (t : Tree) (ok : IsLayer t) where
       let reads = file_reads f has in
       let name = ok.named f.number (ap is_some reads.0) in
       let n = node_with_number (at t name.0) f.number name.1 in
-      let leaf : Has name.0 (names_of f.number t.entries) = read_name t f.number name.0 n.0 n.1 n.2 in
+      let leaf : Has name.0 (file_names f.number t.entries) = read_name t f.number name.0 n.0 n.1 n.2 in
       subst (Has name.0) (reads.1 ∙ none) leaf
 
   -- the file of a number that has a body
-  pub body_reads : (k : ℕ) (b : Body) → body t k ≡ Some b → Has (record { number = k; body = b; names = names_of k t.entries }) (files_of t.entries t.bodies)
+  pub body_reads : (k : ℕ) (b : Body) → body t k ≡ Some b → Has (record { number = k; body = b; names = file_names k t.entries }) (files_of t.entries t.bodies)
   body_reads k b is = by t.bodies is
     where
-      by : (bs : Bodies) → lookup (is_at (nat_cmp k)) bs ≡ Some b → Has (record { number = k; body = b; names = names_of k t.entries }) (files_of t.entries bs)
+      by : (bs : Bodies) → lookup (is_at (nat_cmp k)) bs ≡ Some b → Has (record { number = k; body = b; names = file_names k t.entries }) (files_of t.entries bs)
       by [] e = absurd (no_some b e)
       by (x ∷ bs) e = elim (split_number k x.0) [
         | inl same ↦
             let value : Some x.1 ≡ Some b = sym (cond-true (is_at (nat_cmp k) x.0) (Some x.1) (lookup (is_at (nat_cmp k)) bs) same.1) ∙ e in
             let content : x.1 ≡ b = cc in
-            inl (λ i. record { number = same.0 i; body = sym content i; names = names_of (same.0 i) t.entries })
+            inl (λ i. record { number = same.0 i; body = sym content i; names = file_names (same.0 i) t.entries })
         | inr apart ↦ inr (by bs (sym (cond-false (is_at (nat_cmp k) x.0) (Some x.1) (lookup (is_at (nat_cmp k)) bs) apart.1) ∙ e))
       ]
 
@@ -163,12 +163,12 @@ module _ (u t : Tree) (oku : IsLayer u) (okt : IsLayer t) (f : SavedFileValue) (
   pub has_file : Has f (files_of t.entries t.bodies)
   has_file = subst (Has f) (sym next.files) (has_here f (files_of u.entries u.bodies) next.rest)
 
-  its : (body t f.number ≡ Some f.body) × (names_of f.number t.entries ≡ f.names)
+  its : (body t f.number ≡ Some f.body) × (file_names f.number t.entries ≡ f.names)
   its = file_reads t okt f has_file
 
-  earlier : (k : ℕ) (b : Body) → body u k ≡ Some b → (body t k ≡ Some b) × (names_of k t.entries ≡ names_of k u.entries)
+  earlier : (k : ℕ) (b : Body) → body u k ≡ Some b → (body t k ≡ Some b) × (file_names k t.entries ≡ file_names k u.entries)
   earlier k b is =
-      let g : SavedFileValue = record { number = k; body = b; names = names_of k u.entries } in
+      let g : SavedFileValue = record { number = k; body = b; names = file_names k u.entries } in
       file_reads t okt g (subst (Has g) (sym next.files) (has_left g (files_of u.entries u.bodies) (f ∷ next.rest) (body_reads u oku k b is)))
 
   same_body : (k : ℕ) → IsSome (body u k) → body u k ≡ body t k
@@ -178,10 +178,10 @@ module _ (u t : Tree) (oku : IsLayer u) (okt : IsLayer t) (f : SavedFileValue) (
       by None is s = absurd (no_number s)
       by (Some b) is s = is ∙ sym (earlier k b is).0
 
-  same_names : (k : ℕ) → IsSome (body u k) → names_of k t.entries ≡ names_of k u.entries
+  same_names : (k : ℕ) → IsSome (body u k) → file_names k t.entries ≡ file_names k u.entries
   same_names k some = by (body u k) refl some
     where
-      by : (o : Option Body) → body u k ≡ o → IsSome o → names_of k t.entries ≡ names_of k u.entries
+      by : (o : Option Body) → body u k ≡ o → IsSome o → file_names k t.entries ≡ file_names k u.entries
       by None is s = absurd (no_number s)
       by (Some b) is s = (earlier k b is).1
 
@@ -196,7 +196,7 @@ module _ (u t : Tree) (oku : IsLayer u) (okt : IsLayer t) (f : SavedFileValue) (
   unused some = omega (arith, (oku.numbers f.number some).1, next.free)
 
   module _ (first : Names) (others : List Names) (splits : f.names ≡ first ∷ others) where
-    pub first_fits : FitsMore u t first (leaf_node f.number f.body)
+    pub first_fits : LacksNodeWithRoom u t first (leaf_node f.number f.body)
     first_fits =
         let there : at t first ≡ Some (leaf_node f.number f.body) = name_stands t okt f.number f.body first its.0 (subst (Has first) (sym (its.1 ∙ splits)) (inl refl)) in
         record {
@@ -237,23 +237,23 @@ module _ (u t : Tree) (oku : IsLayer u) (okt : IsLayer t) (f : SavedFileValue) (
               at_which (inl old) = sym (earlier k b old).0
               at_which (inr new) = sym (ap (body t) new.0 ∙ its.0 ∙ ap (λ (x : Body). Some x) (sym new.1))
 
-      names_after : (k : ℕ) → IsSome (body v k) → (q : Names) → Has q (names_of k v.entries) → Has q (names_of k t.entries)
+      names_after : (k : ℕ) → IsSome (body v k) → (q : Names) → Has q (file_names k v.entries) → Has q (file_names k t.entries)
       names_after k some q has = by (body v k) refl some
         where
-          new_name : k ≡ f.number → Has q (names_of k t.entries)
-          new_name same = at_name (subst (Has q) (ap (λ (j : ℕ). names_of j v.entries) same ∙ first_names u v f.number first oku next.free one) has)
+          new_name : k ≡ f.number → Has q (file_names k t.entries)
+          new_name same = at_name (subst (Has q) (ap (λ (j : ℕ). file_names j v.entries) same ∙ first_names u v f.number first oku next.free one) has)
             where
-              at_name : Has q (first ∷ []) → Has q (names_of k t.entries)
-              at_name (inl is) = subst (Has q) (sym (ap (λ (j : ℕ). names_of j t.entries) same ∙ its.1 ∙ splits)) (inl is)
+              at_name : Has q (first ∷ []) → Has q (file_names k t.entries)
+              at_name (inl is) = subst (Has q) (sym (ap (λ (j : ℕ). file_names j t.entries) same ∙ its.1 ∙ splits)) (inl is)
               at_name (inr none) = absurd none
 
-          old_name : (b : Body) → body u k ≡ Some b → Has q (names_of k t.entries)
+          old_name : (b : Body) → body u k ≡ Some b → Has q (file_names k t.entries)
           old_name b is = elim (split_number k f.number) [
             | inl same ↦ new_name same.0
             | inr apart ↦ subst (Has q) (sym (earlier k b is).1) (subst (Has q) (one.others k (λ e. apart.0 (sym e))) has)
           ]
 
-          by : (o : Option Body) → body v k ≡ o → IsSome o → Has q (names_of k t.entries)
+          by : (o : Option Body) → body v k ≡ o → IsSome o → Has q (file_names k t.entries)
           by None is s = absurd (no_number s)
           by (Some b) is s = elim (which k b is) [ inl old ↦ old_name b old | inr new ↦ new_name new.0 ]
 
@@ -274,14 +274,14 @@ module _ (u t : Tree) (oku : IsLayer u) (okt : IsLayer t) (f : SavedFileValue) (
 
 -- ---- names
 
-module _ (u0 u t : Tree) (k : ℕ) (ps : List Names) (i : ℕ) (p : Names) (lt : i < length ps) (at_i : p ≡ get_or ps i p) (await : HasNames u0 t k ps) (was : AddsNames k u0.entries u.entries (take i ps)) (under : IsUnder u t) (sorted : IsStrictlySortedBy path_cmp (names_of k u0.entries ++ ps)) where
+module _ (u0 u t : Tree) (k : ℕ) (ps : List Names) (i : ℕ) (p : Names) (lt : i < length ps) (at_i : p ≡ get_or ps i p) (await : HasNames u0 t k ps) (was : AddsNames k u0.entries u.entries (take i ps)) (under : IsUnder u t) (sorted : IsStrictlySortedBy path_cmp (file_names k u0.entries ++ ps)) where
   name_there : at t p ≡ Some (leaf_node k await.content)
   name_there = has_all (λ (q : Names). at t q ≡ Some (leaf_node k await.content)) p ps await.names (has_at ps i p lt at_i)
 
-  pub name_fits : Fits u t p (leaf_node k await.content)
+  pub name_fits : LacksNode u t p (leaf_node k await.content)
   name_fits = record {
     node = name_there;
-    free = free_under u t p (leaf_node k await.content) under.stands name_there (λ is. no_less_itself p (has_all (λ (q : Names). path_cmp q p ≡ Less) p (names_of k u.entries) (next_name u0 u k ps i p lt at_i was sorted) (name_reads u k await.content p is)));
+    free = free_under u t p (leaf_node k await.content) under.stands name_there (λ is. no_less_itself p (has_all (λ (q : Names). path_cmp q p ≡ Less) p (file_names k u.entries) (next_name u0 u k ps i p lt at_i was sorted) (name_reads u k await.content p is)));
     above = λ q m splits dir. under.dirs q dir;
   }
 

@@ -17,8 +17,8 @@ use Rattle.snap_layer.proofs.Looks.{has_its_number}
 use Rattle.snap_layer.proofs.Paths.{path_cmp_total}
 use Rattle.snap_layer.proofs.Replacing.{other_name}
 use Rattle.snap_saved.specs.Values.{SavedFileValue}
-use Rattle.snap_saved.specs.Saved.{dir_part, path_if, dirs_of, whiteouts_of, names_of, files_of}
-use Rattle.snap_saved.specs.Walked.{dir_at, whiteout_at, name_at}
+use Rattle.snap_saved.specs.Saved.{dir_part, path_if, dirs_of, whiteouts_of, file_names, files_of}
+use Rattle.snap_saved.specs.Walked.{saved_dir_at, whiteout_at, saved_name_at}
 use Rattle.snap_saved.proofs.Rising.{take_next}
 
 -- ---- a list read element by element
@@ -40,31 +40,31 @@ module _ {X : Type 0} (h : Node → Names → Option X) (es : Entries) where
   by_path [] a = refl
   by_path (e ∷ fs) a = λ i. cons_option (option_and_then (λ (n : Node). h n e.0) (a.0 i)) (by_path fs a.1 i)
 
-pub dirs_by_path : (t : Tree) → IsLayer t → filter_map (dir_at t) (keys_of t.entries) ≡ dirs_of t.entries
+pub dirs_by_path : (t : Tree) → IsLayer t → filter_map (saved_dir_at t) (keys_of t.entries) ≡ dirs_of t.entries
 dirs_by_path t ok = by_path dir_part t.entries t.entries (found_each path_cmp_total t.entries ok.sorted_paths)
 
 pub whiteouts_by_path : (t : Tree) → IsLayer t → filter_map (whiteout_at t) (keys_of t.entries) ≡ whiteouts_of t.entries
 whiteouts_by_path t ok = by_path (λ (n : Node) (p : Names). path_if (is_whiteout n) p) t.entries t.entries (found_each path_cmp_total t.entries ok.sorted_paths)
 
-pub names_by_path : (t : Tree) → IsLayer t → (k : ℕ) → filter_map (name_at t k) (keys_of t.entries) ≡ names_of k t.entries
+pub names_by_path : (t : Tree) → IsLayer t → (k : ℕ) → filter_map (saved_name_at t k) (keys_of t.entries) ≡ file_names k t.entries
 names_by_path t ok k = by_path (λ (n : Node) (p : Names). path_if (has_number k n) p) t.entries t.entries (found_each path_cmp_total t.entries ok.sorted_paths)
 
 -- whether a path is a name of the number, by the number that stands there
-pub name_here : (t : Tree) (p : Names) (k : ℕ) → number_at t p ≡ Some k → name_at t k p ≡ Some p
+pub name_here : (t : Tree) (p : Names) (k : ℕ) → number_at t p ≡ Some k → saved_name_at t k p ≡ Some p
 name_here t p k is = by (at t p) is
   where
     by : (o : Option Node) → option_and_then number_of o ≡ Some k → option_and_then (λ (n : Node). path_if (has_number k n) p) o ≡ Some p
     by None e = absurd (cc)
     by (Some n) e = ap (λ (b : Bool). path_if b p) (has_its_number k n e)
 
-pub name_other : (t : Tree) (p : Names) (k j : ℕ) → number_at t p ≡ Some j → (k ≡ j → ⊥) → name_at t k p ≡ None
+pub name_other : (t : Tree) (p : Names) (k j : ℕ) → number_at t p ≡ Some j → (k ≡ j → ⊥) → saved_name_at t k p ≡ None
 name_other t p k j is apart = by (at t p) is
   where
     by : (o : Option Node) → option_and_then number_of o ≡ Some j → option_and_then (λ (n : Node). path_if (has_number k n) p) o ≡ None
     by None e = refl
     by (Some n) e = ap (λ (b : Bool). path_if b p) (other_name k j n e apart)
 
-pub name_none : (t : Tree) (p : Names) (k : ℕ) → number_at t p ≡ None → name_at t k p ≡ None
+pub name_none : (t : Tree) (p : Names) (k : ℕ) → number_at t p ≡ None → saved_name_at t k p ≡ None
 name_none t p k is = by (at t p) is
   where
     by : (o : Option Node) → option_and_then number_of o ≡ None → option_and_then (λ (n : Node). path_if (has_number k n) p) o ≡ None
@@ -87,14 +87,14 @@ AreFirst-none t ok = ap (files_of t.entries) (above_zero t.bodies (starts_above_
 pub record NextFile (t : Tree) (files : List SavedFileValue) (n k : ℕ) : Type 0 where
   pub content : Body
   pub there : body t k ≡ Some content
-  pub first : AreFirst t (files ++ (record { number = k; body = content; names = names_of k t.entries }) ∷ []) k
+  pub first : AreFirst t (files ++ (record { number = k; body = content; names = file_names k t.entries }) ∷ []) k
   pub higher : n < k
   pub fewer : length (above k t.bodies) < length (above n t.bodies)
 
 pub next_file : (t : Tree) → IsLayer t → (files : List SavedFileValue) (n k : ℕ) → AreFirst t files n → find (λ j. nat_lt n j) (keys_of t.bodies) ≡ Some k → NextFile t files n k
 next_file t ok files n k first found =
     let next = above_next n k t.bodies ok.sorted_numbers found in
-    let f : SavedFileValue = record { number = k; body = next.body; names = names_of k t.entries } in
+    let f : SavedFileValue = record { number = k; body = next.body; names = file_names k t.entries } in
     record {
       content = next.body;
       there = next.there;

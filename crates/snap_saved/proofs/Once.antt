@@ -23,7 +23,7 @@ use Rattle.snap_layer.proofs.Looks.{same_tree, split_number, has_its_number, num
 use Rattle.snap_layer.proofs.Paths.{path_cmp_total, path_cmp-IsAntisymmetric}
 use Rattle.snap_saved.specs.declared.dir.SavedDir.{SavedDir}
 use Rattle.snap_saved.specs.Values.{SavedFileValue, SavedValue}
-use Rattle.snap_saved.specs.Saved.{dir_part, path_if, dirs_of, whiteouts_of, names_of, files_of, dir_meta, dir_opaque, saved}
+use Rattle.snap_saved.specs.Saved.{dir_part, path_if, dirs_of, whiteouts_of, file_names, files_of, dir_meta, dir_opaque, saved}
 use Rattle.snap_saved.proofs.Adding.{dir_keyed, path_keyed}
 
 pub no_some : {X : Type 0} (x : X) → None ≡ Some x → ⊥
@@ -101,11 +101,11 @@ first_file [] = []
 first_file (f ∷ fs) = f.names
 
 -- the names of a number that has a body
-same_names : (es fs : Entries) (bs : Bodies) (k : ℕ) → files_of es bs ≡ files_of fs bs → IsSome (lookup (is_at (nat_cmp k)) bs) → names_of k es ≡ names_of k fs
+same_names : (es fs : Entries) (bs : Bodies) (k : ℕ) → files_of es bs ≡ files_of fs bs → IsSome (lookup (is_at (nat_cmp k)) bs) → file_names k es ≡ file_names k fs
 unfolding first_file
 same_names es fs [] k same there = absurd (cc)
 same_names es fs (b ∷ bs) k same there = elim (split_number k b.0) [
-  | inl is ↦ ap (λ (j : ℕ). names_of j es) is.0 ∙ ap first_file same ∙ ap (λ (j : ℕ). names_of j fs) (sym is.0)
+  | inl is ↦ ap (λ (j : ℕ). file_names j es) is.0 ∙ ap first_file same ∙ ap (λ (j : ℕ). file_names j fs) (sym is.0)
   | inr apart ↦ same_names es fs bs k (ap rest same) (subst IsSome (ap (λ (c : Bool). cond c (Some b.1) (lookup (is_at (nat_cmp k)) bs)) apart.1) there)
 ]
   where
@@ -143,11 +143,11 @@ one_kind t u m n k whole_m whole_n same is_m is_n = by m n whole_m whole_n is_m 
     by (Symlink i) Whiteout v w a b = absurd (no_some k b)
 
 -- where each part of the one layer is one of the other, what stands in the one stands in the other
-module _ (t u : Tree) (okt : IsLayer t) (oku : IsLayer u) (root : at t [] ≡ at u []) (dirs : (d : SavedDir) → Has d (dirs_of t.entries) → Has d (dirs_of u.entries)) (whiteouts : (q : Names) → Has q (whiteouts_of t.entries) → Has q (whiteouts_of u.entries)) (bodies : (k : ℕ) → IsSome (body t k) → body t k ≡ body u k) (names : (k : ℕ) → IsSome (body t k) → (q : Names) → Has q (names_of k t.entries) → Has q (names_of k u.entries)) where
+module _ (t u : Tree) (okt : IsLayer t) (oku : IsLayer u) (root : at t [] ≡ at u []) (dirs : (d : SavedDir) → Has d (dirs_of t.entries) → Has d (dirs_of u.entries)) (whiteouts : (q : Names) → Has q (whiteouts_of t.entries) → Has q (whiteouts_of u.entries)) (bodies : (k : ℕ) → IsSome (body t k) → body t k ≡ body u k) (names : (k : ℕ) → IsSome (body t k) → (q : Names) → Has q (file_names k t.entries) → Has q (file_names k u.entries)) where
   named_there : (q : Names) (n : Node) (k : ℕ) → at t q ≡ Some n → number_of n ≡ Some k → at u q ≡ Some n
   named_there q n k is number =
       let there : IsSome (body t k) = has_body t okt q k (ap (option_and_then number_of) is ∙ number) in
-      let has : Has q (names_of k t.entries) = read_has path_cmp_total path_cmp-IsAntisymmetric (λ (e : Names × Node). path_if (has_number k e.1) e.0) t.entries q n q is (ap (λ (b : Bool). path_if b q) (has_its_number k n number)) in
+      let has : Has q (file_names k t.entries) = read_has path_cmp_total path_cmp-IsAntisymmetric (λ (e : Names × Node). path_if (has_number k e.1) e.0) t.entries q n q is (ap (λ (b : Bool). path_if b q) (has_its_number k n number)) in
       let e = has_read path_cmp_total path_cmp-IsAntisymmetric (λ (e : Names × Node). path_if (has_number k e.1) e.0) u.entries q oku.sorted_paths (names k there q has) in
       let path : q ≡ e.0.0 = path_keyed (has_number k e.0.1) e.0.0 q e.1 in
       let its : at u q ≡ Some e.0.1 = ap (at u) path ∙ e.2 in
@@ -190,7 +190,7 @@ module _ (t u : Tree) (okt : IsLayer t) (oku : IsLayer u) (same : saved t ≡ sa
   same_root : at t [] ≡ at u []
   same_root = root_is (at t []) okt.root ∙ (λ i. Some (Dir (ap (λ (s : SavedValue). s.meta) same i) (ap (λ (s : SavedValue). s.opaque) same i))) ∙ sym (root_is (at u []) oku.root)
 
-  names : (k : ℕ) → IsSome (body t k) → names_of k t.entries ≡ names_of k u.entries
+  names : (k : ℕ) → IsSome (body t k) → file_names k t.entries ≡ file_names k u.entries
   names k there = same_names t.entries u.entries t.bodies k (files ∙ ap (files_of u.entries) (sym same_bodies)) there
 
   same_there : (q : Names) (n : Node) → at t q ≡ Some n → at u q ≡ Some n

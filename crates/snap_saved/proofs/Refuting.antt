@@ -32,8 +32,8 @@ use Rattle.snap_saved.specs.declared.error.RestoreError.{RestoreError}
 use Rattle.snap_saved.specs.declared.error.RestoreError.TheVariants as errors
 use Rattle.snap_saved.specs.Values.{SavedFileValue, SavedValue}
 use Rattle.snap_saved.specs.Saved.{files_of, dir_meta, dir_opaque, saved}
-use Rattle.snap_saved.specs.Named.{IsVacant}
-use Rattle.snap_saved.specs.Refusing.{Refutes, refusal, Fits, FitsMore, IsFurnished, HasNext, IsTight}
+use Rattle.snap_saved.specs.Named.{IsFreePath}
+use Rattle.snap_saved.specs.Refusing.{Refutes, refusal, LacksNode, LacksNodeWithRoom, HasSameDirs, HasNext, HasLeastNext}
 use Rattle.snap_saved.proofs.Inserting.{all_before}
 use Rattle.snap_saved.proofs.Once.{Has, bodies_back, no_some, root_is}
 use Rattle.snap_saved.proofs.Under.{has_here, root_by}
@@ -58,7 +58,7 @@ refutes_later (Ok y) x P Q same among refutes = absurd same
 refutes_later (Err e) x P Q same among refutes = refutes_more e P Q among (subst (λ (z : RestoreError). Refutes z P) (sym same) refutes)
 
 -- the place where a part fits is vacant
-pub fits_vacant : (u t : Tree) → IsLayer u → IsLayer t → (p : Names) (n : Node) → Fits u t p n → IsVacant u p
+pub fits_vacant : (u t : Tree) → IsLayer u → IsLayer t → (p : Names) (n : Node) → LacksNode u t p n → IsFreePath u p
 fits_vacant u t oku okt p n fits = record {
   none = fits.free;
   above = record {
@@ -69,16 +69,16 @@ fits_vacant u t oku okt p n fits = record {
 
 -- ---- the layer isn't full
 
-pub full_with_entry : (u t : Tree) → IsLayer u → IsLayer t → (p : Names) (n : Node) → FitsMore u t p n → inodes_of (Some n) ≤ 1 → is_within (with_entry u p n) ≡ false → ⊥
+pub full_with_entry : (u t : Tree) → IsLayer u → IsLayer t → (p : Names) (n : Node) → LacksNodeWithRoom u t p n → inodes_of (Some n) ≤ 1 → is_within (with_entry u p n) ≡ false → ⊥
 full_with_entry u t oku okt p n more small full =
     let few : inode_count (with_entry u p n) ≤ u.most = omega (arith, inode_count-with_entry u p n oku.sorted_paths, small, more.fewer, okt.few, more.most) in
     no_bool (sym (is_within_yes (with_entry u p n) few oku.next.1) ∙ full)
 
-pub full_whiteout : (u t : Tree) → IsLayer u → IsLayer t → (p : Names) → FitsMore u t p Whiteout → is_within (with_node u p Whiteout) ≡ false → ⊥
+pub full_whiteout : (u t : Tree) → IsLayer u → IsLayer t → (p : Names) → LacksNodeWithRoom u t p Whiteout → is_within (with_node u p Whiteout) ≡ false → ⊥
 full_whiteout u t oku okt p more full =
     full_with_entry u t oku okt p Whiteout more (omega arith) (ap is_within (sym (with_node-free u oku p Whiteout (subst IsFree (sym more.fits.free) tt))) ∙ full)
 
-pub full_new : (u t : Tree) (k : ℕ) (b : Body) (p : Names) → IsLayer (with_next u k) → IsLayer t → body t k ≡ Some b → FitsMore u t p (leaf_node k b) → is_within (with_new (with_next u k) p (leaf_node k b) b) ≡ false → ⊥
+pub full_new : (u t : Tree) (k : ℕ) (b : Body) (p : Names) → IsLayer (with_next u k) → IsLayer t → body t k ≡ Some b → LacksNodeWithRoom u t p (leaf_node k b) → is_within (with_new (with_next u k) p (leaf_node k b) b) ≡ false → ⊥
 full_new u t k b p oku okt is more full =
     let u1 = with_next u k in
     let one : inode_count (with_new u1 p (leaf_node k b) b) ≡ inode_count u1 + 1 = inode_count-with_new u1 p (leaf_node k b) b oku (leaf_number k b) ∙ ap (λ (w : Tree). inode_count w + 1) (without_nothing u1 oku p more.fits.free) in
@@ -124,7 +124,7 @@ keys-append : (bs cs : Bodies) → keys_of (bs ++ cs) ≡ keys_of bs ++ keys_of 
 keys-append bs cs = map-append (λ (e : ℕ × Body). e.0) bs cs
 
 -- the file after those that are there is the next
-pub next_from : (u0 u t : Tree) → IsLayer u0 → IsLayer u → IsLayer t → IsFurnished u0 t → (fs : List SavedFileValue) (f : SavedFileValue) (rest : List SavedFileValue) → saved u ≡ record (saved u0) { files = fs; next = u.next } → files_of t.entries t.bodies ≡ fs ++ f ∷ rest → IsTight u → HasNext u t f
+pub next_from : (u0 u t : Tree) → IsLayer u0 → IsLayer u → IsLayer t → HasSameDirs u0 t → (fs : List SavedFileValue) (f : SavedFileValue) (rest : List SavedFileValue) → saved u ≡ record (saved u0) { files = fs; next = u.next } → files_of t.entries t.bodies ≡ fs ++ f ∷ rest → HasLeastNext u → HasNext u t f
 next_from u0 u t ok0 oku okt had fs f rest was whole tight =
     let files : files_of t.entries t.bodies ≡ files_of u.entries u.bodies ++ f ∷ rest = whole ∙ ap (λ (s : SavedValue). s.files ++ f ∷ rest) (sym was) in
     let unf = λ (g : SavedFileValue). let e : ℕ × Body = (g.number, g.body) in e in
@@ -156,13 +156,13 @@ numbers_low t ok = by t.bodies (found_each nat_cmp_total t.bodies ok.sorted_numb
     by (e ∷ bs) a = ((ok.numbers e.0 (ap is_some a.0)).1, by bs a.1)
 
 -- a tight layer with the files of another has no later next number
-pub next_low : (t u : Tree) → IsLayer t → IsTight u → files_of u.entries u.bodies ≡ files_of t.entries t.bodies → u.next ≤ t.next
+pub next_low : (t u : Tree) → IsLayer t → HasLeastNext u → files_of u.entries u.bodies ≡ files_of t.entries t.bodies → u.next ≤ t.next
 next_low t u ok tight files =
     let bodies : u.bodies ≡ t.bodies = sym (bodies_back u.entries u.bodies) ∙ ap (map (λ (g : SavedFileValue). (g.number, g.body))) files ∙ bodies_back t.entries t.bodies in
     tight t.next ok.next.0 (subst (λ (bs : Bodies). AllByRecursion (λ (j : ℕ). j < t.next) (keys_of bs)) (sym bodies) (numbers_low t ok))
 
 -- a layer whose next number comes right after its last file is tight
-pub tight_after : (u v : Tree) (f : SavedFileValue) → saved v ≡ record (saved u) { files = files_of u.entries u.bodies ++ f ∷ []; next = v.next } → v.next ≡ f.number + 1 → IsTight v
+pub tight_after : (u v : Tree) (f : SavedFileValue) → saved v ≡ record (saved u) { files = files_of u.entries u.bodies ++ f ∷ []; next = v.next } → v.next ≡ f.number + 1 → HasLeastNext v
 tight_after u v f is next k low all =
     let bodies : v.bodies ≡ map (λ (g : SavedFileValue). (g.number, g.body)) (files_of u.entries u.bodies ++ f ∷ []) = sym (bodies_back v.entries v.bodies) ∙ ap (λ (s : SavedValue). map (λ (g : SavedFileValue). (g.number, g.body)) s.files) is in
     let last : f.number < k = at_end (files_of u.entries u.bodies) (subst (λ (bs : Bodies). AllByRecursion (λ (j : ℕ). j < k) (keys_of bs)) bodies all) in

@@ -13,7 +13,7 @@ use Rattle.snap_layer.proofs.Frames.{split_ℕ}
 use Rattle.snap_layer.proofs.Paths.{path_cmp_total}
 use Rattle.snap_saved.specs.declared.dir.SavedDir.{SavedDir}
 use Rattle.snap_saved.specs.Values.{SavedValue}
-use Rattle.snap_saved.specs.Saved.{dir_path, dirs_of, whiteouts_of, names_of, saved}
+use Rattle.snap_saved.specs.Saved.{dir_path, dirs_of, whiteouts_of, file_names, saved}
 use Rattle.snap_saved.specs.Named.{AddsNames}
 use Rattle.snap_saved.proofs.Inserting.{all_before, all_mapped}
 use Rattle.snap_saved.proofs.Adding.{AddsNames-more}
@@ -90,9 +90,9 @@ module _ (t u : Tree) (ps : List Names) (i : ℕ) (p : Names) (lt : i < length p
 -- ---- names
 
 module _ (t u : Tree) (k : ℕ) (ps : List Names) (i : ℕ) (p : Names) (lt : i < length ps) (at : p ≡ get_or ps i p) (was : AddsNames k t.entries u.entries (take i ps)) where
-  pub next_name : IsStrictlySortedBy path_cmp (names_of k t.entries ++ ps) → AllByRecursion (λ (q : Names). path_cmp q p ≡ Less) (names_of k u.entries)
+  pub next_name : IsStrictlySortedBy path_cmp (file_names k t.entries ++ ps) → AllByRecursion (λ (q : Names). path_cmp q p ≡ Less) (file_names k u.entries)
   next_name sorted =
-      let old = names_of k t.entries in
+      let old = file_names k t.entries in
       let whole : old ++ ps ≡ (old ++ take i ps) ++ p ∷ drop (i + 1) ps = ap (λ (l : List Names). old ++ l) (parted ps i p lt at) ∙ sym (append_assoc old (take i ps) (p ∷ drop (i + 1) ps)) in
       subst (AllByRecursion (λ (q : Names). path_cmp q p ≡ Less)) (sym was.names) (all_before path_cmp (old ++ take i ps) p (drop (i + 1) ps) (subst (IsStrictlySortedBy path_cmp) whole sorted))
 

@@ -23,7 +23,7 @@ use Rattle.snap_layer.proofs.Looks.{has_its_number, number_is, split_number}
 use Rattle.snap_layer.proofs.Paths.{path_cmp_total, path_cmp-IsAntisymmetric}
 use Rattle.snap_layer.proofs.Totaling.{dir_there}
 use Rattle.snap_saved.specs.declared.dir.SavedDir.{SavedDir}
-use Rattle.snap_saved.specs.Saved.{dir_path, dir_part, path_if, dirs_of, whiteouts_of, names_of, dir_meta, dir_opaque}
+use Rattle.snap_saved.specs.Saved.{dir_path, dir_part, path_if, dirs_of, whiteouts_of, file_names, dir_meta, dir_opaque}
 use Rattle.snap_saved.proofs.Adding.{dir_keyed, path_keyed}
 use Rattle.snap_saved.proofs.Once.{Has, read_has, has_read, dir_node, whiteout_node, holds, no_some, root_is}
 use Rattle.snap_saved.proofs.Rising.{parted}
@@ -113,8 +113,8 @@ dirs_sorted t ok = sorted_read path_cmp (λ (e : Names × Node). dir_part e.1 e.
 pub whiteouts_sorted : (t : Tree) → IsLayer t → IsStrictlySortedBy path_cmp (whiteouts_of t.entries)
 whiteouts_sorted t ok = subst (IsStrictlySortedBy path_cmp) (map_same (whiteouts_of t.entries)) (sorted_read path_cmp (λ (e : Names × Node). path_if (is_whiteout e.1) e.0) (λ (q : Names). q) (λ e x. path_keyed (is_whiteout e.1) e.0 x) t.entries ok.sorted_paths)
 
-pub names_sorted : (t : Tree) → IsLayer t → (k : ℕ) → IsStrictlySortedBy path_cmp (names_of k t.entries)
-names_sorted t ok k = subst (IsStrictlySortedBy path_cmp) (map_same (names_of k t.entries)) (sorted_read path_cmp (λ (e : Names × Node). path_if (has_number k e.1) e.0) (λ (q : Names). q) (λ e x. path_keyed (has_number k e.1) e.0 x) t.entries ok.sorted_paths)
+pub names_sorted : (t : Tree) → IsLayer t → (k : ℕ) → IsStrictlySortedBy path_cmp (file_names k t.entries)
+names_sorted t ok k = subst (IsStrictlySortedBy path_cmp) (map_same (file_names k t.entries)) (sorted_read path_cmp (λ (e : Names × Node). path_if (has_number k e.1) e.0) (λ (q : Names). q) (λ e x. path_keyed (has_number k e.1) e.0 x) t.entries ok.sorted_paths)
 
 -- a directory before another is among those before it
 pub taken_before : (ds : List SavedDir) (i : ℕ) (d x : SavedDir) → i < length ds → d ≡ get_or ds i d → IsStrictlySortedBy path_cmp (map dir_path ds) → Has x ds → path_cmp x.path d.path ≡ Less → Has x (take i ds)
@@ -167,7 +167,7 @@ leaf_is t (Symlink j) k b whole number is = by b (subst IsSymlink (ap (body t) s
     by (body_kinds.File meta content) link = absurd link
     by (body_kinds.Symlink target) link = λ i. Symlink (same i)
 
-pub name_stands : (t : Tree) → IsLayer t → (k : ℕ) (b : Body) (p : Names) → body t k ≡ Some b → Has p (names_of k t.entries) → at t p ≡ Some (leaf_node k b)
+pub name_stands : (t : Tree) → IsLayer t → (k : ℕ) (b : Body) (p : Names) → body t k ≡ Some b → Has p (file_names k t.entries) → at t p ≡ Some (leaf_node k b)
 name_stands t ok k b p is has =
     let e = has_read path_cmp_total path_cmp-IsAntisymmetric (λ (e : Names × Node). path_if (has_number k e.1) e.0) t.entries p ok.sorted_paths has in
     let its : at t p ≡ Some e.0.1 = ap (at t) (path_keyed (has_number k e.0.1) e.0.0 p e.1) ∙ e.2 in
@@ -180,7 +180,7 @@ dir_reads t d is part = read_has path_cmp_total path_cmp-IsAntisymmetric (λ (e 
 pub whiteout_reads : (t : Tree) (p : Names) → at t p ≡ Some Whiteout → Has p (whiteouts_of t.entries)
 whiteout_reads t p is = read_has path_cmp_total path_cmp-IsAntisymmetric (λ (e : Names × Node). path_if (is_whiteout e.1) e.0) t.entries p Whiteout p is refl
 
-pub name_reads : (t : Tree) (k : ℕ) (b : Body) (p : Names) → at t p ≡ Some (leaf_node k b) → Has p (names_of k t.entries)
+pub name_reads : (t : Tree) (k : ℕ) (b : Body) (p : Names) → at t p ≡ Some (leaf_node k b) → Has p (file_names k t.entries)
 name_reads t k b p is = read_has path_cmp_total path_cmp-IsAntisymmetric (λ (e : Names × Node). path_if (has_number k e.1) e.0) t.entries p (leaf_node k b) p is (ap (λ (h : Bool). path_if h p) (has_its_number k (leaf_node k b) (leaf_number k b)))
 
 -- a directory of t stands in u, where u has its part
@@ -204,7 +204,7 @@ pub root_by : (u v : Tree) → IsLayer u → IsLayer v → dir_meta (at u []) �
 root_by u v oku okv meta opaque = root_is (at u []) oku.root ∙ (λ i. Some (Dir (meta i) (opaque i))) ∙ sym (root_is (at v []) okv.root)
 
 -- a node of a number is a name of it
-pub read_name : (t : Tree) (k : ℕ) (p : Names) (n : Node) → at t p ≡ Some n → number_of n ≡ Some k → Has p (names_of k t.entries)
+pub read_name : (t : Tree) (k : ℕ) (p : Names) (n : Node) → at t p ≡ Some n → number_of n ≡ Some k → Has p (file_names k t.entries)
 read_name t k p n is number = read_has path_cmp_total path_cmp-IsAntisymmetric (λ (e : Names × Node). path_if (has_number k e.1) e.0) t.entries p n p is (ap (λ (h : Bool). path_if h p) (has_its_number k n number))
 
 -- what holds of each element of a list

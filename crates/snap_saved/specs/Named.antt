@@ -5,10 +5,10 @@ use Rattle.std.specs.BTreeMap.{is_at}
 use Rattle.snap_path.specs.Text.{Names}
 use Rattle.snap_layer.specs.Tree.{Tree, Entries, path_cmp, at}
 use Rattle.snap_layer.specs.Edits.{HasParent}
-use Rattle.snap_saved.specs.Saved.{dirs_of, whiteouts_of, names_of}
+use Rattle.snap_saved.specs.Saved.{dirs_of, whiteouts_of, file_names}
 
 -- nothing stands at the path, which lies in a directory
-pub record IsVacant (t : Tree) (p : Names) : Type 0 where
+pub record IsFreePath (t : Tree) (p : Names) : Type 0 where
   pub none : at t p ≡ None
   pub above : HasParent t p
 
@@ -17,5 +17,5 @@ pub record AddsNames (k : ℕ) (es fs : Entries) (ps : List Names) : Type 0 wher
   pub root : lookup (is_at (path_cmp [])) fs ≡ lookup (is_at (path_cmp [])) es
   pub dirs : dirs_of fs ≡ dirs_of es
   pub whiteouts : whiteouts_of fs ≡ whiteouts_of es
-  pub names : names_of k fs ≡ names_of k es ++ ps
-  pub others : (j : ℕ) → (j ≡ k → ⊥) → names_of j fs ≡ names_of j es
+  pub names : file_names k fs ≡ file_names k es ++ ps
+  pub others : (j : ℕ) → (j ≡ k → ⊥) → file_names j fs ≡ file_names j es

@@ -28,14 +28,14 @@ refusal layer_errors.LayerFull part = Malformed part Full
 refusal (layer_errors.OutOfMemory no_memory) part = OutOfMemory no_memory
 
 -- the layer t has the node at the path, where u has nothing yet, though it has the directories above it
-pub record Fits (u t : Tree) (p : Names) (n : Node) : Type 0 where
+pub record LacksNode (u t : Tree) (p : Names) (n : Node) : Type 0 where
   pub node : at t p ≡ Some n
   pub free : at u p ≡ None
   pub above : (q : Names) (m : List ℕ) → p ≡ q ++ m ∷ [] → IsDirAt (at t q) → IsDirAt (at u q)
 
 -- with more inodes than u, of which it may have as many
-pub record FitsMore (u t : Tree) (p : Names) (n : Node) : Type 0 where
-  pub fits : Fits u t p n
+pub record LacksNodeWithRoom (u t : Tree) (p : Names) (n : Node) : Type 0 where
+  pub fits : LacksNode u t p n
   pub fewer : inode_count u < inode_count t
   pub most : u.most ≡ t.most
 
@@ -52,28 +52,28 @@ pub record HasNames (u t : Tree) (k : ℕ) (ps : List Names) : Type 0 where
   pub names : AllByRecursion (λ (p : Names). at t p ≡ Some (leaf_node k content)) ps
 
 -- a layer with no more than its root and its directories
-pub record IsBare (t : Tree) : Type 0 where
+pub record HasDirsAlone (t : Tree) : Type 0 where
   pub whiteouts : whiteouts_of t.entries ≡ []
   pub files : t.bodies ≡ []
 
 -- both have the same root, and may have as many inodes
-pub record IsAkin (u t : Tree) : Type 0 where
+pub record HasSameRoot (u t : Tree) : Type 0 where
   pub root : at u [] ≡ at t []
   pub most : u.most ≡ t.most
 
 -- and the same directories and whiteouts
-pub record IsFurnished (u t : Tree) : Type 0 where
-  pub akin : IsAkin u t
+pub record HasSameDirs (u t : Tree) : Type 0 where
+  pub akin : HasSameRoot u t
   pub dirs : dirs_of u.entries ≡ dirs_of t.entries
   pub whiteouts : whiteouts_of u.entries ≡ whiteouts_of t.entries
 
 -- t has the file after those of u, and maybe more
 pub record HasNext (u t : Tree) (f : SavedFileValue) : Type 0 where
-  pub furnished : IsFurnished u t
+  pub furnished : HasSameDirs u t
   pub rest : List SavedFileValue
   pub files : files_of t.entries t.bodies ≡ files_of u.entries u.bodies ++ f ∷ rest
   pub free : u.next ≤ f.number
 
 -- the next number is at most each that comes after the numbers of the files
-abbrev pub IsTight : Tree → Type 0
-IsTight t = (k : ℕ) → 1 ≤ k → AllByRecursion (λ (j : ℕ). j < k) (keys_of t.bodies) → t.next ≤ k
+abbrev pub HasLeastNext : Tree → Type 0
+HasLeastNext t = (k : ℕ) → 1 ≤ k → AllByRecursion (λ (j : ℕ). j < k) (keys_of t.bodies) → t.next ≤ k

@@ -30,12 +30,12 @@ abbrev pub whiteouts_of : Entries → List Names
 whiteouts_of es = filter_map (λ e. path_if (is_whiteout e.1) e.0) es
 
 -- the names of a file number: the paths at which it stands, in order
-abbrev pub names_of : ℕ → Entries → List Names
-names_of k es = filter_map (λ e. path_if (has_number k e.1) e.0) es
+abbrev pub file_names : ℕ → Entries → List Names
+file_names k es = filter_map (λ e. path_if (has_number k e.1) e.0) es
 
 -- the files and symlinks in order of their numbers, each with its names
 abbrev pub files_of : Entries → Bodies → List SavedFileValue
-files_of es bs = map (λ b. record { number = b.0; body = b.1; names = names_of b.0 es }) bs
+files_of es bs = map (λ b. record { number = b.0; body = b.1; names = file_names b.0 es }) bs
 
 -- the meta of a directory
 abbrev pub dir_meta : Option Node → Meta

@@ -10,17 +10,17 @@ use Rattle.snap_saved.specs.declared.dir.SavedDir.{SavedDir}
 use Rattle.snap_saved.specs.Saved.{dir_part, path_if}
 
 -- the directory at a path, if there is one other than the root
-abbrev pub dir_at : Tree → Names → Option SavedDir
-dir_at t p = option_and_then (λ n. dir_part n p) (at t p)
+abbrev pub saved_dir_at : Tree → Names → Option SavedDir
+saved_dir_at t p = option_and_then (λ n. dir_part n p) (at t p)
 
 -- the path, if a whiteout stands there
 abbrev pub whiteout_at : Tree → Names → Option Names
 whiteout_at t p = option_and_then (λ n. path_if (is_whiteout n) p) (at t p)
 
 -- the path, if the file number stands there
-abbrev pub name_at : Tree → ℕ → Names → Option Names
-name_at t k p = option_and_then (λ n. path_if (has_number k n) p) (at t p)
+abbrev pub saved_name_at : Tree → ℕ → Names → Option Names
+saved_name_at t k p = option_and_then (λ n. path_if (has_number k n) p) (at t p)
 
 -- the names of a number in a list of numbers with their names
-abbrev pub names_in : List (ℕ × List Names) → ℕ → List Names
-names_in m k = option_map_or (λ names. names) (lookup (is_at (nat_cmp k)) m) []
+abbrev pub listed_names : List (ℕ × List Names) → ℕ → List Names
+listed_names m k = option_map_or (λ names. names) (lookup (is_at (nat_cmp k)) m) []

@@ -3,7 +3,7 @@ ghost use Rattle.std.specs.Prelude.{◌≡◌, ◌++◌, ◌∷◌, [], ℕ, con
 ghost use Rattle.std.specs.BTreeMap.{is_at};
 ghost use Rattle.std.specs.Ordering.{nat_cmp};
 ghost use Rattle.snap_layer.specs.Tree.{number_at};
-ghost use Rattle.snap_saved.specs.Walked.{name_at, names_in};
+ghost use Rattle.snap_saved.specs.Walked.{saved_name_at, listed_names};
 
 use snap_layer::Layer;
 use snap_path::Path;
@@ -62,7 +62,7 @@ pub(crate) fn names_by_number(
     layer: &Layer,
     paths: &[Path],
 ) -> Result<BTreeMap<u32, NameList>, AllocError>
-    ensures { IfOk result (λ m. (k : ℕ) → names_in m.entries k ≡ filter_map (name_at layer.now k) paths.now) }
+    ensures { IfOk result (λ m. (k : ℕ) → listed_names m.entries k ≡ filter_map (saved_name_at layer.now k) paths.now) }
 {
     let mut names = BTreeMap::new(alloc);
     for path in paths {
@@ -80,7 +80,7 @@ fn add_name(
     number: u32,
     path: Path,
 ) -> Result<(), AllocError>
-    ensures { OnOk result ((k : ℕ) → names_in names.new.entries k ≡ cond (is_at (nat_cmp number) k) (names_in names.old.entries number ++ path ∷ []) (names_in names.old.entries k)) }
+    ensures { OnOk result ((k : ℕ) → listed_names names.new.entries k ≡ cond (is_at (nat_cmp number) k) (listed_names names.old.entries number ++ path ∷ []) (listed_names names.old.entries k)) }
 {
     if let Some(list) = names.get_mut(&number) {
         return list.push(path);
@@ -97,8 +97,8 @@ pub(crate) fn take_names(
     names: &mut BTreeMap<u32, NameList>,
     number: u32,
 ) -> NameList
-    ensures taken { result ≡ names_in names.old.entries number }
-    ensures others { (k : ℕ) → (k ≡ number → ⊥) → names_in names.new.entries k ≡ names_in names.old.entries k }
+    ensures taken { result ≡ listed_names names.old.entries number }
+    ensures others { (k : ℕ) → (k ≡ number → ⊥) → listed_names names.new.entries k ≡ listed_names names.old.entries k }
 {
     match names.remove(&number) {
         Some(list) => list,

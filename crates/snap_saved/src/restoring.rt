@@ -7,9 +7,9 @@ ghost use Rattle.snap_layer.specs.Tree.{Tree, at, body, leaf_node, path_cmp};
 ghost use Rattle.snap_layer.specs.Edits.{with_entry};
 ghost use Rattle.snap_layer.specs.Layers.{IsLayer};
 ghost use Rattle.snap_layer.specs.declared.node.Body.{Body as BodyValue};
-ghost use Rattle.snap_saved.specs.Saved.{saved, dir_meta, dirs_of, whiteouts_of, names_of, files_of};
-ghost use Rattle.snap_saved.specs.Named.{AddsNames, IsVacant};
-ghost use Rattle.snap_saved.specs.Refusing.{Refutes, Fits, FitsMore, IsBare, IsAkin, IsFurnished, HasNext, HasNames, IsTight};
+ghost use Rattle.snap_saved.specs.Saved.{saved, dir_meta, dirs_of, whiteouts_of, file_names, files_of};
+ghost use Rattle.snap_saved.specs.Named.{AddsNames, IsFreePath};
+ghost use Rattle.snap_saved.specs.Refusing.{Refutes, LacksNode, LacksNodeWithRoom, HasDirsAlone, HasSameRoot, HasSameDirs, HasNext, HasNames, HasLeastNext};
 
 use super::dir::SavedDir;
 use super::error::{Fault, Part, RestoreError, refused};
@@ -75,7 +75,7 @@ fn root_alone(alloc: Global, meta: Meta, opaque: bool, most: usize) -> Result<La
 
 /// What keeps something from being put at the path.
 fn obstacle(layer: &Layer, path: &Path) -> Option<Fault>
-    ensures { MatchOption result (IsVacant layer.now path.now) (λ _. IsVacant layer.now path.now → ⊥) }
+    ensures { MatchOption result (IsFreePath layer.now path.now) (λ _. IsFreePath layer.now path.now → ⊥) }
 {
     if layer.at(path).is_some() {
         return Some(Fault::Occupied);
@@ -90,9 +90,9 @@ fn obstacle(layer: &Layer, path: &Path) -> Option<Fault>
 fn add_dirs(layer: &mut Layer, dirs: &[SavedDir]) -> Result<(), RestoreError>
     requires layer { IsLayer layer.old }
     requires none { dirs_of layer.old.entries ≡ [] }
-    requires bare { IsBare layer.old }
+    requires bare { HasDirsAlone layer.old }
     ensures ok { OnOk result (saved layer.new ≡ record (saved layer.old) { dirs = dirs.now }) }
-    ensures malformed { IfErr result (λ e. Refutes e (λ t. IsAkin layer.old t × (dirs_of t.entries ≡ dirs.now))) }
+    ensures malformed { IfErr result (λ e. Refutes e (λ t. HasSameRoot layer.old t × (dirs_of t.entries ≡ dirs.now))) }
     ensures layer { OnOk result (IsLayer layer.new) }
 {
     if let Some(place) = unsorted_dirs(dirs) {
@@ -109,7 +109,7 @@ fn add_dir(layer: &mut Layer, dir: &SavedDir, part: Part) -> Result<(), RestoreE
     requires layer { IsLayer layer.old }
     requires rises { AllByRecursion (λ d. path_cmp d.path dir.now.path ≡ Less) (dirs_of layer.old.entries) }
     ensures ok { OnOk result (saved layer.new ≡ record (saved layer.old) { dirs = dirs_of layer.old.entries ++ dir.now ∷ [] }) }
-    ensures malformed { IfErr result (λ e. Refutes e (λ t. FitsMore layer.old t dir.now.path (Node.Dir dir.now.meta dir.now.opaque))) }
+    ensures malformed { IfErr result (λ e. Refutes e (λ t. LacksNodeWithRoom layer.old t dir.now.path (Node.Dir dir.now.meta dir.now.opaque))) }
     ensures layer { OnOk result (IsLayer layer.new) }
 {
     if !is_meta(dir.meta) {
@@ -127,9 +127,9 @@ fn add_dir(layer: &mut Layer, dir: &SavedDir, part: Part) -> Result<(), RestoreE
 /// Adds the whiteouts to a layer that has none.
 fn add_whiteouts(layer: &mut Layer, whiteouts: &[Path]) -> Result<(), RestoreError>
     requires layer { IsLayer layer.old }
-    requires bare { IsBare layer.old }
+    requires bare { HasDirsAlone layer.old }
     ensures ok { OnOk result (saved layer.new ≡ record (saved layer.old) { whiteouts = whiteouts.now }) }
-    ensures malformed { IfErr result (λ e. Refutes e (λ t. IsAkin layer.old t × (dirs_of layer.old.entries ≡ dirs_of t.entries) × (whiteouts_of t.entries ≡ whiteouts.now))) }
+    ensures malformed { IfErr result (λ e. Refutes e (λ t. HasSameRoot layer.old t × (dirs_of layer.old.entries ≡ dirs_of t.entries) × (whiteouts_of t.entries ≡ whiteouts.now))) }
     ensures layer { OnOk result (IsLayer layer.new) }
 {
     if let Some(place) = unsorted(whiteouts) {
@@ -146,7 +146,7 @@ fn add_whiteout(layer: &mut Layer, path: &Path, part: Part) -> Result<(), Restor
     requires layer { IsLayer layer.old }
     requires rises { AllByRecursion (λ p. path_cmp p path.now ≡ Less) (whiteouts_of layer.old.entries) }
     ensures ok { OnOk result (saved layer.new ≡ record (saved layer.old) { whiteouts = whiteouts_of layer.old.entries ++ path.now ∷ [] }) }
-    ensures malformed { IfErr result (λ e. Refutes e (λ t. FitsMore layer.old t path.now Node.Whiteout)) }
+    ensures malformed { IfErr result (λ e. Refutes e (λ t. LacksNodeWithRoom layer.old t path.now Node.Whiteout)) }
     ensures layer { OnOk result (IsLayer layer.new) }
 {
     if let Some(fault) = obstacle(layer, path) {
@@ -162,10 +162,10 @@ fn add_whiteout(layer: &mut Layer, path: &Path, part: Part) -> Result<(), Restor
 fn add_files(layer: &mut Layer, files: Vec<SavedFile>) -> Result<(), RestoreError>
     requires layer { IsLayer layer.old }
     requires none { files_of layer.old.entries layer.old.bodies ≡ [] }
-    requires tight { IsTight layer.old }
+    requires tight { HasLeastNext layer.old }
     ensures ok { OnOk result (saved layer.new ≡ record (saved layer.old) { files = files.items; next = layer.new.next }) }
-    ensures tight { OnOk result (IsTight layer.new) }
-    ensures malformed { IfErr result (λ e. Refutes e (λ t. IsFurnished layer.old t × (files_of t.entries t.bodies ≡ files.items))) }
+    ensures tight { OnOk result (HasLeastNext layer.new) }
+    ensures malformed { IfErr result (λ e. Refutes e (λ t. HasSameDirs layer.old t × (files_of t.entries t.bodies ≡ files.items))) }
     ensures layer { OnOk result (IsLayer layer.new) }
 {
     let mut place = 0;
@@ -214,7 +214,7 @@ fn add_first(
     ensures names { OnOk result (AddsNames number layer.old.entries layer.new.entries (name.now ∷ [])) }
     ensures most { OnOk result (layer.new.most ≡ layer.old.most) }
     ensures next { OnOk result (layer.new.next ≡ number + 1) }
-    ensures malformed { IfErr result (λ e. Refutes e (λ t. (layer.old.next ≤ number) × (body t number ≡ Some content) × FitsMore layer.old t name.now (leaf_node number content))) }
+    ensures malformed { IfErr result (λ e. Refutes e (λ t. (layer.old.next ≤ number) × (body t number ≡ Some content) × LacksNodeWithRoom layer.old t name.now (leaf_node number content))) }
     ensures layer { OnOk result (IsLayer layer.new) }
 {
     if number < layer.next_number() {
@@ -242,7 +242,7 @@ fn add_names(
 ) -> Result<(), RestoreError>
     requires layer { IsLayer layer.old }
     requires body { IsSome (body layer.old number) }
-    requires rises { IsStrictlySortedBy path_cmp (names_of number layer.old.entries ++ names.now) }
+    requires rises { IsStrictlySortedBy path_cmp (file_names number layer.old.entries ++ names.now) }
     ensures names { OnOk result (AddsNames number layer.old.entries layer.new.entries names.now) }
     ensures malformed { IfErr result (λ e. Refutes e (λ t. HasNames layer.old t number names.now)) }
     ensures rest { OnOk result (layer.new ≡ record layer.old { entries = layer.new.entries }) }
@@ -259,10 +259,10 @@ fn add_names(
 fn add_name(layer: &mut Layer, number: u32, name: &Path, part: Part) -> Result<(), RestoreError>
     requires layer { IsLayer layer.old }
     requires body { IsSome (body layer.old number) }
-    requires rises { AllByRecursion (λ p. path_cmp p name.now ≡ Less) (names_of number layer.old.entries) }
+    requires rises { AllByRecursion (λ p. path_cmp p name.now ≡ Less) (file_names number layer.old.entries) }
     ensures names { OnOk result (AddsNames number layer.old.entries layer.new.entries (name.now ∷ [])) }
     ensures put { (b : BodyValue) → body layer.old number ≡ Some b → OnOk result (layer.new ≡ with_entry layer.old name.now (leaf_node number b)) }
-    ensures malformed { IfErr result (λ e. Refutes e (λ t. (b : BodyValue) × Fits layer.old t name.now (leaf_node number b))) }
+    ensures malformed { IfErr result (λ e. Refutes e (λ t. (b : BodyValue) × LacksNode layer.old t name.now (leaf_node number b))) }
     ensures rest { OnOk result (layer.new ≡ record layer.old { entries = layer.new.entries }) }
     ensures layer { OnOk result (IsLayer layer.new) }
 {

@@ -3,8 +3,8 @@ ghost use Rattle.std.specs.Prelude.{◌≡◌, ℕ, [], filter_map, if◌then◌
 ghost use Rattle.snap_layer.specs.Tree.{at, body};
 ghost use Rattle.snap_layer.specs.Layers.{IsLayer};
 ghost use Rattle.snap_layer.specs.declared.node.Body.{Body as BodyValue};
-ghost use Rattle.snap_saved.specs.Saved.{saved, dir_meta, dir_opaque, names_of, files_of};
-ghost use Rattle.snap_saved.specs.Walked.{dir_at, whiteout_at, names_in};
+ghost use Rattle.snap_saved.specs.Saved.{saved, dir_meta, dir_opaque, file_names, files_of};
+ghost use Rattle.snap_saved.specs.Walked.{saved_dir_at, whiteout_at, listed_names};
 
 use super::dir::SavedDir;
 use super::file::SavedFile;
@@ -51,8 +51,8 @@ fn root_of(layer: &Layer) -> (Meta, bool)
 }
 
 /// The directory at the path, if there is one other than the root.
-fn dir_at(layer: &Layer, path: &Path) -> Result<Option<SavedDir>, AllocError>
-    ensures { IfOk result (λ d. d ≡ dir_at layer.now path.now) }
+fn saved_dir_at(layer: &Layer, path: &Path) -> Result<Option<SavedDir>, AllocError>
+    ensures { IfOk result (λ d. d ≡ saved_dir_at layer.now path.now) }
 {
     match layer.at(path) {
         Some(Node::Dir { meta, opaque }) => {
@@ -68,11 +68,11 @@ fn dir_at(layer: &Layer, path: &Path) -> Result<Option<SavedDir>, AllocError>
 
 /// The directories among the paths but the root.
 fn dirs_among(alloc: Global, layer: &Layer, paths: &[Path]) -> Result<Vec<SavedDir>, AllocError>
-    ensures { IfOk result (λ dirs. dirs.items ≡ filter_map (dir_at layer.now) paths.now) }
+    ensures { IfOk result (λ dirs. dirs.items ≡ filter_map (saved_dir_at layer.now) paths.now) }
 {
     let mut dirs = Vec::new(alloc);
     for path in paths {
-        if let Some(dir) = dir_at(layer, path)? {
+        if let Some(dir) = saved_dir_at(layer, path)? {
             dirs.push(dir)?;
         }
     }
@@ -109,7 +109,7 @@ fn files_with(
     mut names: BTreeMap<u32, NameList>,
 ) -> Result<Vec<SavedFile>, AllocError>
     requires layer { IsLayer layer.now }
-    requires names { (k : ℕ) → names_in names.entries k ≡ names_of k layer.now.entries }
+    requires names { (k : ℕ) → listed_names names.entries k ≡ file_names k layer.now.entries }
     ensures { IfOk result (λ files. files.items ≡ files_of layer.now.entries layer.now.bodies) }
 {
     let mut files = Vec::new(alloc);

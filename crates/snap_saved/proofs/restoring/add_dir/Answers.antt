@@ -5,7 +5,7 @@ use Rattle.std.specs.Prelude.{Err}
 use Rattle.snap_layer.specs.declared.node.Node.TheVariants.{Dir}
 use Rattle.snap_layer.specs.Tree.{Tree}
 use Rattle.snap_saved.specs.declared.error.RestoreError.{RestoreError}
-use Rattle.snap_saved.specs.Refusing.{Refutes, FitsMore}
+use Rattle.snap_saved.specs.Refusing.{Refutes, LacksNodeWithRoom}
 use Rattle.snap_saved.proofs.Refuting.{refuse, fits_vacant, full_with_entry}
 use Rattle.snap_saved.proofs.restoring.add_dir.Goals as goal
 
@@ -26,6 +26,6 @@ pub returns-in-Err-clause-malformed : goal.returns-in-Err-clause-malformed
 returns-in-Err-clause-malformed c =
     let u = c.args.layer.now in
     let d = c.args.dir.now in
-    let P = λ (t : Tree). FitsMore u t d.path (Dir d.meta d.opaque) in
+    let P = λ (t : Tree). LacksNodeWithRoom u t d.path (Dir d.meta d.opaque) in
     subst (λ (e : RestoreError). Refutes e P) (sym c.refused.ensures)
     (refuse c.in-Err.error c.args.part P (λ full t ok more. full_with_entry u t c.requires.layer ok d.path (Dir d.meta d.opaque) more (omega arith) (c.in-Err.ensures.full.0 (ap Err full))))

@@ -6,7 +6,7 @@ use Rattle.snap_layer.specs.declared.node.Node.TheVariants.{Dir}
 use Rattle.snap_layer.specs.Tree.{Tree, path_cmp}
 use Rattle.snap_saved.specs.declared.dir.SavedDir.{SavedDir}
 use Rattle.snap_saved.specs.Saved.{dir_path, dirs_of}
-use Rattle.snap_saved.specs.Refusing.{FitsMore, IsAkin}
+use Rattle.snap_saved.specs.Refusing.{LacksNodeWithRoom, HasSameRoot}
 use Rattle.snap_saved.proofs.Under.{dirs_sorted}
 use Rattle.snap_saved.proofs.Fitting.{dir_fits}
 use Rattle.snap_saved.proofs.Refuting.{refutes_later}
@@ -24,6 +24,6 @@ returns-in_err-add_dir-clause-malformed c =
     let u = c.loop-place.layer in
     let ds = c.args.dirs.now in
     let d = c.index-dirs-place.result in
-    refutes_later c.from_residual.result c.in_err-add_dir.field-0.0 (λ (t : Tree). FitsMore u t d.path (Dir d.meta d.opaque)) (λ (t : Tree). IsAkin u0 t × (dirs_of t.entries ≡ ds)) c.from_residual.ensures.1
+    refutes_later c.from_residual.result c.in_err-add_dir.field-0.0 (λ (t : Tree). LacksNodeWithRoom u t d.path (Dir d.meta d.opaque)) (λ (t : Tree). HasSameRoot u0 t × (dirs_of t.entries ≡ ds)) c.from_residual.ensures.1
     (λ t ok such. dir_fits u0 u t c.requires.layer c.loop-place.invariant.layer ok c.requires.bare such.0 ds c.loop-place.place d c.loop-place-test.true c.index-dirs-place.is such.1 c.loop-place.invariant.is c.in_default.ensures)
     c.in_err-add_dir.ensures.malformed

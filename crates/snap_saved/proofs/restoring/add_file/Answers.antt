@@ -12,7 +12,7 @@ use Rattle.snap_saved.proofs.Adding.{last_there, first_names, file_added, on_ok_
 use Rattle.std.proofs.lemmas.Result.{IfErr-weaker, on_ok_weaker}
 use Rattle.snap_layer.specs.Tree.{Tree, body, leaf_node}
 use Rattle.snap_saved.specs.declared.error.RestoreError.{RestoreError}
-use Rattle.snap_saved.specs.Refusing.{Refutes, FitsMore, HasNext, HasNames}
+use Rattle.snap_saved.specs.Refusing.{Refutes, LacksNodeWithRoom, HasNext, HasNames}
 use Rattle.snap_saved.proofs.Under.{names_sorted}
 use Rattle.snap_saved.proofs.Fitting.{has_file, file_reads, named_file, first_fits, others_await}
 use Rattle.snap_saved.proofs.Refuting.{refutes_later, refutes_more}
@@ -67,7 +67,7 @@ returns-in_err-add_first-clause-malformed c =
     let first = c.in-Some.first.now in
     let splits : f.names ≡ first ∷ c.in-Some.others.now = sym c.deref.ensures.value ∙ c.in-Some.ensures.cases.0 in
     refutes_later c.from_residual.result c.in_err-add_first.field-0.0
-    (λ (t : Tree). (u.next ≤ f.number) × (body t f.number ≡ Some f.body) × FitsMore u t first (leaf_node f.number f.body)) (λ (t : Tree). HasNext u t c.args.file) c.from_residual.ensures.1
+    (λ (t : Tree). (u.next ≤ f.number) × (body t f.number ≡ Some f.body) × LacksNodeWithRoom u t first (leaf_node f.number f.body)) (λ (t : Tree). HasNext u t c.args.file) c.from_residual.ensures.1
     (λ t ok next.
     let its = subst (HasNext u t) (sym c.file.view_is) next in
     (its.free, (file_reads t ok f (has_file u t c.requires.layer ok f its)).0, first_fits u t c.requires.layer ok f its first c.in-Some.others.now splits))

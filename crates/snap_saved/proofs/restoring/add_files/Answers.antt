@@ -3,7 +3,7 @@ use Rattle.std.specs.Vec.Iter.{into_iter_items}
 use Rattle.snap_layer.specs.Tree.{Tree}
 use Rattle.snap_saved.specs.Values.{SavedFileValue}
 use Rattle.snap_saved.specs.Saved.{files_of}
-use Rattle.snap_saved.specs.Refusing.{IsFurnished, HasNext}
+use Rattle.snap_saved.specs.Refusing.{HasSameDirs, HasNext}
 use Rattle.snap_saved.proofs.Refuting.{next_from, refutes_later, tight_after}
 use Rattle.snap_saved.proofs.restoring.add_files.Goals as goal
 
@@ -15,7 +15,7 @@ returns-in_err-add_file-clause-malformed c =
     let was = c.loop-file.invariant in
     let rest : List SavedFileValue = into_iter_items c.next.new.self in
     let left : into_iter_items c.loop-file.file-iterator ≡ f ∷ rest = search rules in
-    refutes_later c.from_residual.result c.in_err-add_file.field-0.0 (λ (t : Tree). HasNext u t f) (λ (t : Tree). IsFurnished u0 t × (files_of t.entries t.bodies ≡ c.args.files.items)) c.from_residual.ensures.1
+    refutes_later c.from_residual.result c.in_err-add_file.field-0.0 (λ (t : Tree). HasNext u t f) (λ (t : Tree). HasSameDirs u0 t × (files_of t.entries t.bodies ≡ c.args.files.items)) c.from_residual.ensures.1
     (λ t ok such. next_from u0 u t c.requires.layer was.layer ok such.0 c.loop-file.yielded f rest was.is (such.1 ∙ sym was.files ∙ ap (λ (l : List SavedFileValue). c.loop-file.yielded ++ l) left) was.tight)
     c.in_err-add_file.ensures.malformed
 

@@ -6,7 +6,7 @@ use Rattle.snap_saved.proofs.Adding.{place_from, vacant_raised, first_put}
 use Rattle.std.specs.Prelude.{Err}
 use Rattle.snap_layer.specs.Counts.{is_within}
 use Rattle.snap_saved.specs.declared.error.RestoreError.{RestoreError}
-use Rattle.snap_saved.specs.Refusing.{Refutes, FitsMore}
+use Rattle.snap_saved.specs.Refusing.{Refutes, LacksNodeWithRoom}
 use Rattle.snap_saved.proofs.Refuting.{refuse, fits_vacant, full_new, body_good}
 use Rattle.snap_saved.proofs.restoring.add_first.Goals as goal
 
@@ -57,6 +57,6 @@ returns-in-Err-clause-malformed c =
     let b = c.args.content in
     let p = c.args.name.now in
     let raised : IsLayer (with_next u k) = subst IsLayer c.raise.ensures.next c.raise.ensures.layer in
-    let P = λ (t : Tree). (u.next ≤ k) × (body t k ≡ Some b) × FitsMore u t p (leaf_node k b) in
+    let P = λ (t : Tree). (u.next ≤ k) × (body t k ≡ Some b) × LacksNodeWithRoom u t p (leaf_node k b) in
     subst (λ (e : RestoreError). Refutes e P) (sym c.refused.ensures)
     (refuse c.in-Err.error c.args.part P (λ full t ok such. full_new u t k b p raised ok such.1 such.2 (ap (λ (w : Tree). is_within (with_new w p (leaf_node w.next b) b)) (sym c.raise.ensures.next) ∙ c.in-Err.ensures.full.0 (ap Err full))))

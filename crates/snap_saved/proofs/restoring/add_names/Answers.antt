@@ -2,7 +2,7 @@ use Rattle.snap_saved.proofs.Rising.{next_name, more_names}
 use Rattle.std.proofs.Common.{ap, ◌∙◌}
 use Rattle.snap_layer.specs.declared.node.Body.{Body}
 use Rattle.snap_layer.specs.Tree.{Tree, body, leaf_node}
-use Rattle.snap_saved.specs.Refusing.{Fits, HasNames}
+use Rattle.snap_saved.specs.Refusing.{LacksNode, HasNames}
 use Rattle.snap_saved.proofs.Fitting.{name_fits, under_next}
 use Rattle.snap_saved.proofs.Refuting.{refutes_later}
 use Rattle.snap_saved.proofs.restoring.add_names.Goals as goal
@@ -16,7 +16,7 @@ returns-in_err-add_name-clause-malformed c =
     let k = c.args.number in
     let ps = c.args.names.now in
     let p = c.index-names-place.result in
-    refutes_later c.from_residual.result c.in_err-add_name.field-0.0 (λ (t : Tree). (b : Body) × Fits c.loop-place.layer t p (leaf_node k b)) (λ (t : Tree). HasNames u0 t k ps) c.from_residual.ensures.1
+    refutes_later c.from_residual.result c.in_err-add_name.field-0.0 (λ (t : Tree). (b : Body) × LacksNode c.loop-place.layer t p (leaf_node k b)) (λ (t : Tree). HasNames u0 t k ps) c.from_residual.ensures.1
     (λ t ok await. (await.content, name_fits u0 c.loop-place.layer t k ps c.loop-place.place p c.loop-place-test.true c.index-names-place.is await c.loop-place.invariant.named (c.loop-place.invariant.under t ok await) c.requires.rises))
     c.in_err-add_name.ensures.malformed
 

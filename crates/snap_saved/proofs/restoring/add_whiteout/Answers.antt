@@ -7,7 +7,7 @@ use Rattle.snap_saved.proofs.Adding.{place_from, whiteout_added}
 use Rattle.std.specs.Prelude.{Err}
 use Rattle.snap_layer.specs.Tree.{Tree}
 use Rattle.snap_saved.specs.declared.error.RestoreError.{RestoreError}
-use Rattle.snap_saved.specs.Refusing.{Refutes, FitsMore}
+use Rattle.snap_saved.specs.Refusing.{Refutes, LacksNodeWithRoom}
 use Rattle.snap_saved.proofs.Refuting.{refuse, fits_vacant, full_whiteout}
 use Rattle.snap_saved.proofs.restoring.add_whiteout.Goals as goal
 
@@ -28,6 +28,6 @@ pub returns-in-Err-clause-malformed : goal.returns-in-Err-clause-malformed
 returns-in-Err-clause-malformed c =
     let u = c.args.layer.now in
     let p = c.args.path.now in
-    let P = λ (t : Tree). FitsMore u t p Whiteout in
+    let P = λ (t : Tree). LacksNodeWithRoom u t p Whiteout in
     subst (λ (e : RestoreError). Refutes e P) (sym c.refused.ensures)
     (refuse c.in-Err.error c.args.part P (λ full t ok more. full_whiteout u t c.requires.layer ok p more (c.in-Err.ensures.full.0 (ap Err full))))

@@ -1,6 +1,6 @@
 use Rattle.std.proofs.Common.{◌∷◌, ◌++◌, List, [], sym, ap, ◌∙◌}
 use Rattle.snap_saved.specs.declared.dir.SavedDir.{SavedDir}
-use Rattle.snap_saved.specs.Walked.{dir_at}
+use Rattle.snap_saved.specs.Walked.{saved_dir_at}
 use Rattle.snap_saved.proofs.Gathering.{nothing_more, one_more}
 use Rattle.snap_saved.proofs.saving.dirs_among.Goals as goal
 use Rattle.snap_saved.proofs.saving.dirs_among.Goals.{in-Some+in_ok-push, in_default}
@@ -10,7 +10,7 @@ loop-path-preserved c =
     let ps = c.args.paths.now in
     let i = c.loop-path.path-index in
     let p = c.path-item.result in
-    let read = dir_at c.args.layer.now in
+    let read = saved_dir_at c.args.layer.now in
     elim c.match-branch-2.branch [
       | in-Some+in_ok-push w ↦
           (λ j. (w.dirs-is j).items) ∙ w.in_ok-push.ensures.items ∙ ap (λ (l : List SavedDir). l ++ w.in-Some.dir ∷ []) c.loop-path.invariant

@@ -1,7 +1,7 @@
 use Rattle.std.proofs.Common.{◌≡◌, ◌++◌, ◌∷◌, List, [], sym, ap, subst, ◌∙◌, arith}
 use Rattle.std.specs.Prelude.{is_some}
 use Rattle.snap_saved.specs.Values.{SavedFileValue}
-use Rattle.snap_saved.specs.Saved.{names_of}
+use Rattle.snap_saved.specs.Saved.{file_names}
 use Rattle.snap_saved.proofs.Gathering.{AreFirst, AreFirst-none, next_file, AreFirst-all}
 use Rattle.snap_saved.proofs.saving.files_with.Goals as goal
 
@@ -26,7 +26,7 @@ loop-number-preserved c =
     let t = c.args.layer.now in
     let k = c.in-Some.number in
     let next = next_file t c.requires.layer c.loop-number.files.items c.loop-number.after k c.loop-number.invariant.first (sym c.next_body.ensures ∙ c.in-Some.is) in
-    let its : c.take_names-own.result ≡ names_of k t.entries = c.take_names-own.ensures.taken ∙ c.loop-number.invariant.left k next.higher in
+    let its : c.take_names-own.result ≡ file_names k t.entries = c.take_names-own.ensures.taken ∙ c.loop-number.invariant.left k next.higher in
     let file = c.in_ok-file_of.ensures next.content next.there ∙ (λ i. record { number = k; body = next.content; names = its i }) in
     let items = c.in_ok-push.ensures.items ∙ ap (λ (f : SavedFileValue). c.loop-number.files.items ++ f ∷ []) file in
     record {

@@ -1,7 +1,7 @@
 use Rattle.std.proofs.Common.{◌≡◌, ℕ, ◌<◌, length}
 use Rattle.snap_layer.proofs.Above.{above}
-use Rattle.snap_saved.specs.Saved.{names_of}
-use Rattle.snap_saved.specs.Walked.{names_in}
+use Rattle.snap_saved.specs.Saved.{file_names}
+use Rattle.snap_saved.specs.Walked.{listed_names}
 use Rattle.snap_saved.proofs.Gathering.{AreFirst}
 use Rattle.snap_saved.proofs.saving.files_with.Given as goal
 
@@ -9,7 +9,7 @@ use Rattle.snap_saved.proofs.saving.files_with.Given as goal
 abbrev pub invariant-loop-number : goal.invariant-loop-number
 invariant-loop-number l = record {
   first : AreFirst l.layer l.files.items l.after;
-  left : (k : ℕ) → l.after < k → names_in l.names.entries k ≡ names_of k l.layer.entries;
+  left : (k : ℕ) → l.after < k → listed_names l.names.entries k ≡ file_names k l.layer.entries;
 }
 
 abbrev pub decreases-loop-number : goal.decreases-loop-number
