@@ -17,7 +17,7 @@ import (
 )
 
 // The version is that of snap_replay.
-const version = "0.1.0"
+const version = "0.2.0"
 
 // Statuses.
 const (

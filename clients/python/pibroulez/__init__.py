@@ -96,7 +96,7 @@ from .errors import (
 )
 from .store import PROGRAM, Store
 
-__version__ = "0.1.0"
+__version__ = "0.2.0"
 
 __all__ = [
     "AlreadyExists",

@@ -34,7 +34,7 @@ use std::thread::Threads;
 use std::{env, fmt, io};
 
 // The version of the program.
-const VERSION: &str = "0.1.0";
+const VERSION: &str = "0.2.0";
 
 // The status of bad words.
 const BAD_WORDS: u8 = 2;

@@ -18,7 +18,7 @@ import (
 )
 
 // The version is that of snap_replay.
-const version = "0.1.0"
+const version = "0.2.0"
 
 const help = `usage: pibroulez-proxy [--program PATH] [--root FOLDER] [--socket PATH] [--log-level LEVEL]
 
