@@ -15,9 +15,11 @@ MOUNT_OPTIONS = "index=off,redirect_dir=off,metacopy=off,xino=off"
 
 @dataclass
 class Snapshot:
-    """A snapshot: its layers by their numbers, its own first, and what shows them."""
+    """A snapshot: its layers by their numbers, its own first, how many it has with those that an opaque root hides, and
+    what shows them."""
 
     layers: list[int]
+    depth: int
     root: int | None = None
     mounted_at: str | None = None
 
@@ -43,18 +45,20 @@ class Layers:
         """A new layer over those of the parent, mounted."""
         below = self.snapshots[ns, parent].layers if parent else []
         mode = self._mode_of(below[0]) if below else DEFAULT_DIRECTORY_MODE
-        self._show(ns, key, [self._new_layer(mode), *below], is_writable=True)
+        depth = 1 + (self.depth(ns, parent) if parent else 0)
+        self._show(ns, key, [self._new_layer(mode), *below], depth, is_writable=True)
 
     def view(self, ns: str, key: str, parent: str) -> None:
         """The layers of the parent, or an empty one, without one above them."""
         layers = self.snapshots[ns, parent].layers if parent else [self._new_layer(DEFAULT_DIRECTORY_MODE)]
-        self._show(ns, key, layers, is_writable=False)
+        depth = self.depth(ns, parent) if parent else 1
+        self._show(ns, key, layers, depth, is_writable=False)
 
     def commit(self, ns: str, key: str, name: str) -> None:
         """Unmounts an active snapshot. Its layer is one of those that are prepared on it from now on."""
         snapshot = self.snapshots.pop((ns, key))
         _hide(snapshot)
-        self.snapshots[ns, name] = Snapshot(snapshot.layers)
+        self.snapshots[ns, name] = Snapshot(snapshot.layers, snapshot.depth)
 
     def drop(self, ns: str, key: str) -> None:
         """Unmounts and forgets a snapshot, where there is one."""
@@ -65,12 +69,12 @@ class Layers:
     def make_opaque(self, ns: str, key: str, path: str) -> None:
         """Sets the mark of a directory of an active snapshot's own layer, while it isn't mounted. Linux doesn't look at
         that of a layer's root: the layers below are left out."""
-        layers = self.snapshots[ns, key].layers
+        layers, depth = self.snapshots[ns, key].layers, self.depth(ns, key)
         self.drop(ns, key)
         os.setxattr(self._directory(layers[0]) + path, OPAQUE, b"y", follow_symlinks=False)
         if path == "/" and len(layers) > 1:
             layers = [layers[0], self._new_layer(DEFAULT_DIRECTORY_MODE)]
-        self._show(ns, key, layers, is_writable=True)
+        self._show(ns, key, layers, depth, is_writable=True)
 
     def is_shown(self, ns: str, key: str) -> bool:
         """Whether this is an active snapshot or a view."""
@@ -78,8 +82,8 @@ class Layers:
         return snapshot is not None and snapshot.root is not None
 
     def depth(self, ns: str, key: str) -> int:
-        """How many layers a snapshot has, its own among them."""
-        return len(self.snapshots[ns, key].layers)
+        """How many layers a snapshot has, its own among them, and those that an opaque root hides."""
+        return self.snapshots[ns, key].depth
 
     def shown_at(self, ns: str, key: str) -> str:
         """The directory in which an active snapshot or a view is shown."""
@@ -136,7 +140,7 @@ class Layers:
     def _mode_of(self, number: int) -> int:
         return stat.S_IMODE(os.stat(self._directory(number)).st_mode)
 
-    def _show(self, ns: str, key: str, layers: list[int], is_writable: bool) -> None:
+    def _show(self, ns: str, key: str, layers: list[int], depth: int, is_writable: bool) -> None:
         self.drop(ns, key)
         if len(layers) == 1:
             mounted_at = None
@@ -144,7 +148,7 @@ class Layers:
         else:
             mounted_at = root = self._directory(self._new_directory())
             self._mount(layers, mounted_at, is_writable)
-        self.snapshots[ns, key] = Snapshot(layers, os.open(root, os.O_PATH), mounted_at)
+        self.snapshots[ns, key] = Snapshot(layers, depth, os.open(root, os.O_PATH), mounted_at)
 
     def _mount(self, layers: list[int], place: str, is_writable: bool) -> None:
         """Names the layers from the directory that they are in, since all options have a page at most."""
