@@ -15,8 +15,8 @@ MOUNT_OPTIONS = "index=off,redirect_dir=off,metacopy=off,xino=off"
 
 @dataclass
 class Snapshot:
-    """A snapshot: its layers by their numbers, its own first, how many it has with those that an opaque root hides, and
-    what shows them."""
+    """A snapshot: its layers by their numbers, its own first, how many there are with those that an opaque root hides,
+    and what shows them."""
 
     layers: list[int]
     depth: int
