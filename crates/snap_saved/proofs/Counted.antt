@@ -12,7 +12,7 @@ use Rattle.snap_path.specs.Text.{Names}
 use Rattle.snap_layer.specs.declared.node.Node.{Node}
 use Rattle.snap_layer.specs.declared.node.Node.TheVariants.{Dir, File, Symlink, Whiteout}
 use Rattle.snap_layer.specs.declared.node.Body.{Body}
-use Rattle.snap_layer.specs.Tree.{Tree, Entries, path_cmp, at, is_dir, is_whiteout, IsDirAt}
+use Rattle.snap_layer.specs.Tree.{Tree, Entries, path_cmp, is_dir, is_whiteout, IsDirAt}
 use Rattle.snap_layer.specs.Counts.{inode_count}
 use Rattle.snap_layer.specs.Layers.{IsLayer}
 use Rattle.snap_saved.specs.Values.{SavedFileValue}

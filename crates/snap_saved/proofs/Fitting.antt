@@ -1,5 +1,5 @@
 -- The next part of a layer's saved form fits the beginning of a restored layer.
-use Rattle.std.proofs.Common.{◌≡◌, ℕ, ◌+◌, ◌<◌, List, [], ◌∷◌, ◌++◌, length, length-append, map, take, get_or, Option, Some, None, IsSome, refl, sym, ap, subst, ◌∙◌, ◌⊎◌, inl, inr, arith}
+use Rattle.std.proofs.Common.{◌≡◌, ℕ, ◌<◌, List, [], ◌∷◌, ◌++◌, length, length-append, map, take, get_or, Option, Some, None, IsSome, refl, sym, ap, subst, ◌∙◌, ◌⊎◌, inl, inr, arith}
 use Rattle.std.specs.Prelude.{is_some, option_and_then}
 use Rattle.std.specs.declared.cmp.Ordering.TheVariants.{Less}
 use Rattle.std.specs.Ordering.{nat_cmp}
@@ -152,6 +152,10 @@ module _ (t : Tree) (ok : IsLayer t) where
         | inr apart ↦ inr (by bs (sym (cond-false (is_at (nat_cmp k) x.0) (Some x.1) (lookup (is_at (nat_cmp k)) bs) apart.1) ∙ e))
       ]
 
+-- the body that stands last
+pub last_body : (bs : Bodies) (v : Tree) → IsLayer v → (k : ℕ) (b : Body) → v.bodies ≡ bs ++ (k, b) ∷ [] → body v k ≡ Some b
+last_body bs v ok k b bodies = has_all (λ (e : ℕ × Body). lookup (is_at (nat_cmp e.0)) v.bodies ≡ Some e.1) (k, b) v.bodies (found_each nat_cmp_total v.bodies ok.sorted_numbers) (subst (Has {X = ℕ × Body} (k, b)) (sym bodies) (has_here (k, b) bs []))
+
 no_number : IsSome {T = Body} None → ⊥
 no_number e = cc
 
@@ -215,7 +219,7 @@ module _ (u t : Tree) (oku : IsLayer u) (okt : IsLayer t) (f : SavedFileValue) (
       root_after = one.root ∙ next.furnished.akin.root
 
       its_body : body v f.number ≡ Some f.body
-      its_body = has_all (λ (e : ℕ × Body). lookup (is_at (nat_cmp e.0)) v.bodies ≡ Some e.1) (f.number, f.body) v.bodies (found_each nat_cmp_total v.bodies okv.sorted_numbers) (subst (Has {X = ℕ × Body} (f.number, f.body)) (sym bodies) (has_here (f.number, f.body) u.bodies []))
+      its_body = last_body u.bodies v okv f.number f.body bodies
 
       -- each body was there, or is the new one
       which : (k : ℕ) (b : Body) → body v k ≡ Some b → (body u k ≡ Some b) ⊎ ((k ≡ f.number) × (b ≡ f.body))

@@ -7,3 +7,6 @@ pub mod Counted
 pub mod Under
 pub mod Fitting
 pub mod Refuting
+pub mod InTurn
+pub mod Placing
+pub mod Back

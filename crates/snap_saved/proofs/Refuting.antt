@@ -10,6 +10,7 @@ use Rattle.std.specs.Ordering.{nat_cmp}
 use Rattle.std.specs.declared.cmp.Ordering.TheVariants.{Less}
 use Rattle.std.proofs.lemmas.Grind.{common_steps}
 use Rattle.std.proofs.lemmas.List.{map-append}
+use Rattle.snap_path.specs.Limits.{most_number}
 use Rattle.snap_path.specs.Text.{Names}
 use Rattle.snap_layer.specs.declared.error.LayerError.{LayerError}
 use Rattle.snap_layer.specs.declared.error.LayerError.TheVariants.{LayerFull, OutOfMemory}
@@ -69,22 +70,30 @@ fits_vacant u t oku okt p n fits = record {
 
 -- ---- the layer isn't full
 
+pub few_with_entry : (u t : Tree) → IsLayer u → IsLayer t → (p : Names) (n : Node) → LacksNodeWithRoom u t p n → inodes_of (Some n) ≤ 1 → inode_count (with_entry u p n) ≤ u.most
+few_with_entry u t oku okt p n more small = omega (arith, inode_count-with_entry u p n oku.sorted_paths, small, more.fewer, okt.few, more.most)
+
 pub full_with_entry : (u t : Tree) → IsLayer u → IsLayer t → (p : Names) (n : Node) → LacksNodeWithRoom u t p n → inodes_of (Some n) ≤ 1 → is_within (with_entry u p n) ≡ false → ⊥
 full_with_entry u t oku okt p n more small full =
-    let few : inode_count (with_entry u p n) ≤ u.most = omega (arith, inode_count-with_entry u p n oku.sorted_paths, small, more.fewer, okt.few, more.most) in
-    no_bool (sym (is_within_yes (with_entry u p n) few oku.next.1) ∙ full)
+    no_bool (sym (is_within_yes (with_entry u p n) (few_with_entry u t oku okt p n more small) oku.next.1) ∙ full)
 
 pub full_whiteout : (u t : Tree) → IsLayer u → IsLayer t → (p : Names) → LacksNodeWithRoom u t p Whiteout → is_within (with_node u p Whiteout) ≡ false → ⊥
 full_whiteout u t oku okt p more full =
     full_with_entry u t oku okt p Whiteout more (omega arith) (ap is_within (sym (with_node-free u oku p Whiteout (subst IsFree (sym more.fits.free) tt))) ∙ full)
 
-pub full_new : (u t : Tree) (k : ℕ) (b : Body) (p : Names) → IsLayer (with_next u k) → IsLayer t → body t k ≡ Some b → LacksNodeWithRoom u t p (leaf_node k b) → is_within (with_new (with_next u k) p (leaf_node k b) b) ≡ false → ⊥
-full_new u t k b p oku okt is more full =
+pub few_new : (u t : Tree) (k : ℕ) (b : Body) (p : Names) → IsLayer (with_next u k) → IsLayer t → body t k ≡ Some b → LacksNodeWithRoom u t p (leaf_node k b) → inode_count (with_new (with_next u k) p (leaf_node k b) b) ≤ u.most
+few_new u t k b p oku okt is more =
     let u1 = with_next u k in
     let one : inode_count (with_new u1 p (leaf_node k b) b) ≡ inode_count u1 + 1 = inode_count-with_new u1 p (leaf_node k b) b oku (leaf_number k b) ∙ ap (λ (w : Tree). inode_count w + 1) (without_nothing u1 oku p more.fits.free) in
-    let low : k < t.next = (okt.numbers k (ap is_some is)).1 in
-    let few : inode_count (with_new u1 p (leaf_node k b) b) ≤ u.most = omega (arith, one, more.fewer, okt.few, more.most) in
-    no_bool (sym (is_within_yes (with_new u1 p (leaf_node k b) b) few (omega (arith, low, okt.next.1))) ∙ full)
+    omega (arith, one, more.fewer, okt.few, more.most)
+
+-- a number that is used isn't the last
+pub low_number : (t : Tree) → IsLayer t → (k : ℕ) (b : Body) → body t k ≡ Some b → k + 1 ≤ most_number
+low_number t ok k b is = omega (arith, (ok.numbers k (ap is_some is)).1, ok.next.1)
+
+pub full_new : (u t : Tree) (k : ℕ) (b : Body) (p : Names) → IsLayer (with_next u k) → IsLayer t → body t k ≡ Some b → LacksNodeWithRoom u t p (leaf_node k b) → is_within (with_new (with_next u k) p (leaf_node k b) b) ≡ false → ⊥
+full_new u t k b p oku okt is more full =
+    no_bool (sym (is_within_yes (with_new (with_next u k) p (leaf_node k b) b) (few_new u t k b p oku okt is more) (low_number t okt k b is)) ∙ full)
 
 -- ---- limits
 

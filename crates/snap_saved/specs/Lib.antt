@@ -3,3 +3,5 @@ pub mod Saved
 pub mod Named
 pub mod Walked
 pub mod Refusing
+pub mod Limits
+pub mod Restored

@@ -2,6 +2,7 @@
 ghost use Rattle.std.specs.Prelude.{◌≡◌, ◌↔◌, ◌≤◌, IsTrue};
 ghost use Rattle.snap_layer.specs.Contents.{IsContent, IsDigest};
 ghost use Rattle.snap_layer.specs.Layers.{IsBody, IsMeta, is_target};
+ghost use Rattle.snap_saved.specs.Limits.{is_body, is_content, is_digest, is_meta};
 
 use snap_layer::{Body, Bytes, Content, Meta};
 use snap_path::limits::{
@@ -10,14 +11,16 @@ use snap_path::limits::{
 
 /// Whether the mode is at most octal 7777.
 pub(crate) fn is_meta(meta: Meta) -> bool
-    ensures { IsTrue result ↔ IsMeta meta }
+    ensures fits { IsTrue result ↔ IsMeta meta }
+    ensures test { result ≡ is_meta meta }
 {
     meta.mode <= MAX_MODE
 }
 
 /// Whether a file or symlink may be this.
 pub(crate) fn is_body(body: &Body) -> bool
-    ensures { IsTrue result ↔ IsBody body.now }
+    ensures fits { IsTrue result ↔ IsBody body.now }
+    ensures test { result ≡ is_body body.now }
 {
     match body {
         Body::File { meta, content } => is_meta(*meta) && is_content(content),
@@ -27,7 +30,8 @@ pub(crate) fn is_body(body: &Body) -> bool
 
 /// Whether a file may have the content.
 fn is_content(content: &Content) -> bool
-    ensures { IsTrue result ↔ IsContent content.now }
+    ensures fits { IsTrue result ↔ IsContent content.now }
+    ensures test { result ≡ is_content content.now }
 {
     match content {
         Content::Bytes(bytes) => bytes.as_slice().len() as u64 <= MAX_FILE_BYTES,
@@ -37,7 +41,8 @@ fn is_content(content: &Content) -> bool
 
 /// Whether the digest has at most 1024 bytes.
 fn is_digest(digest: &Option<Bytes>) -> bool
-    ensures { IsTrue result ↔ IsDigest digest.now }
+    ensures fits { IsTrue result ↔ IsDigest digest.now }
+    ensures test { result ≡ is_digest digest.now }
 {
     match digest {
         Some(digest) => digest.as_slice().len() <= MAX_DIGEST_BYTES,

@@ -1,8 +1,9 @@
 // A layer from its saved form.
-ghost use Rattle.std.specs.Prelude.{◌≡◌, ◌≤◌, ◌+◌, ◌++◌, ◌∷◌, [], IfErr, IfOk, IsSome, MatchOption, OnOk, Some};
+ghost use Rattle.std.specs.Prelude.{◌≡◌, ◌≤◌, ◌+◌, ◌++◌, ◌∷◌, ◌⊎◌, [], IfErr, IfOk, IsSome, MatchOption, OnOk, Some, Ok, Err};
 ghost use Rattle.std.specs.declared.cmp.Ordering.TheVariants.{Less};
 ghost use Rattle.std.specs.List.{AllByRecursion};
 ghost use Rattle.std.specs.List.Sorted.{IsStrictlySortedBy};
+ghost use Rattle.snap_path.specs.Memory.{no_memory};
 ghost use Rattle.snap_layer.specs.Tree.{Tree, at, body, leaf_node, path_cmp};
 ghost use Rattle.snap_layer.specs.Edits.{with_entry};
 ghost use Rattle.snap_layer.specs.Layers.{IsLayer};
@@ -10,6 +11,8 @@ ghost use Rattle.snap_layer.specs.declared.node.Body.{Body as BodyValue};
 ghost use Rattle.snap_saved.specs.Saved.{saved, dir_meta, dirs_of, whiteouts_of, file_names, files_of};
 ghost use Rattle.snap_saved.specs.Named.{AddsNames, IsFreePath};
 ghost use Rattle.snap_saved.specs.Refusing.{Refutes, LacksNode, LacksNodeWithRoom, HasDirsAlone, HasSameRoot, HasSameDirs, HasNext, HasNames, HasLeastNext};
+ghost use Rattle.snap_saved.specs.declared.error.RestoreError.TheVariants.{OutOfMemory};
+ghost use Rattle.snap_saved.specs.Restored.{restored_layer, obstacle, put_dir, put_dirs, put_each, put_file, put_first, put_name, put_other_names, put_root, put_whiteout, put_whiteouts};
 
 use super::dir::SavedDir;
 use super::error::{Fault, Part, RestoreError, refused};
@@ -34,6 +37,9 @@ pub fn restore(alloc: Global, parts: Saved) -> Result<Layer, RestoreError>
     ensures back { (t : Tree) → IsLayer t → saved t ≡ parts → IfOk result (λ l. l ≡ t) }
     ensures malformed { IfErr result (λ e. Refutes e (λ t. saved t ≡ parts)) }
     ensures layer { IfOk result (λ l. IsLayer l) }
+    // Which layer it is, or which part is malformed and why.
+    ensures made { IfOk result (λ l. restored_layer parts ≡ Ok l) }
+    ensures refused { IfErr result (λ e. (restored_layer parts ≡ Err e) ⊎ (e ≡ OutOfMemory no_memory)) }
 {
     let Saved {
         meta,
@@ -60,6 +66,8 @@ fn root_alone(alloc: Global, meta: Meta, opaque: bool, most: usize) -> Result<La
     ensures ok { IfOk result (λ l. saved l ≡ record { meta = meta; opaque = opaque; dirs = []; whiteouts = []; files = []; next = 1; most = most }) }
     ensures malformed { IfErr result (λ e. Refutes e (λ t. (dir_meta (at t []) ≡ meta) × (t.most ≡ most))) }
     ensures layer { IfOk result (λ l. IsLayer l) }
+    ensures made { IfOk result (λ l. put_root meta opaque most ≡ Ok l) }
+    ensures refused { IfErr result (λ e. (put_root meta opaque most ≡ Err e) ⊎ (e ≡ OutOfMemory no_memory)) }
 {
     if !is_meta(meta) {
         return Err(RestoreError::Malformed(Part::Root, Fault::BadMode));
@@ -75,7 +83,8 @@ fn root_alone(alloc: Global, meta: Meta, opaque: bool, most: usize) -> Result<La
 
 /// What keeps something from being put at the path.
 fn obstacle(layer: &Layer, path: &Path) -> Option<Fault>
-    ensures { MatchOption result (IsFreePath layer.now path.now) (λ _. IsFreePath layer.now path.now → ⊥) }
+    ensures free { MatchOption result (IsFreePath layer.now path.now) (λ _. IsFreePath layer.now path.now → ⊥) }
+    ensures first { result ≡ obstacle layer.now path.now }
 {
     if layer.at(path).is_some() {
         return Some(Fault::Occupied);
@@ -94,6 +103,8 @@ fn add_dirs(layer: &mut Layer, dirs: &[SavedDir]) -> Result<(), RestoreError>
     ensures ok { OnOk result (saved layer.new ≡ record (saved layer.old) { dirs = dirs.now }) }
     ensures malformed { IfErr result (λ e. Refutes e (λ t. HasSameRoot layer.old t × (dirs_of t.entries ≡ dirs.now))) }
     ensures layer { OnOk result (IsLayer layer.new) }
+    ensures made { OnOk result (put_dirs layer.old dirs.now ≡ Ok layer.new) }
+    ensures refused { IfErr result (λ e. (put_dirs layer.old dirs.now ≡ Err e) ⊎ (e ≡ OutOfMemory no_memory)) }
 {
     if let Some(place) = unsorted_dirs(dirs) {
         return Err(RestoreError::Malformed(Part::Dir(place), Fault::NotInOrder));
@@ -111,6 +122,8 @@ fn add_dir(layer: &mut Layer, dir: &SavedDir, part: Part) -> Result<(), RestoreE
     ensures ok { OnOk result (saved layer.new ≡ record (saved layer.old) { dirs = dirs_of layer.old.entries ++ dir.now ∷ [] }) }
     ensures malformed { IfErr result (λ e. Refutes e (λ t. LacksNodeWithRoom layer.old t dir.now.path (Node.Dir dir.now.meta dir.now.opaque))) }
     ensures layer { OnOk result (IsLayer layer.new) }
+    ensures made { OnOk result (put_dir part layer.old dir.now ≡ Ok layer.new) }
+    ensures refused { IfErr result (λ e. (put_dir part layer.old dir.now ≡ Err e) ⊎ (e ≡ OutOfMemory no_memory)) }
 {
     if !is_meta(dir.meta) {
         return Err(RestoreError::Malformed(part, Fault::BadMode));
@@ -131,6 +144,8 @@ fn add_whiteouts(layer: &mut Layer, whiteouts: &[Path]) -> Result<(), RestoreErr
     ensures ok { OnOk result (saved layer.new ≡ record (saved layer.old) { whiteouts = whiteouts.now }) }
     ensures malformed { IfErr result (λ e. Refutes e (λ t. HasSameRoot layer.old t × (dirs_of layer.old.entries ≡ dirs_of t.entries) × (whiteouts_of t.entries ≡ whiteouts.now))) }
     ensures layer { OnOk result (IsLayer layer.new) }
+    ensures made { OnOk result (put_whiteouts layer.old whiteouts.now ≡ Ok layer.new) }
+    ensures refused { IfErr result (λ e. (put_whiteouts layer.old whiteouts.now ≡ Err e) ⊎ (e ≡ OutOfMemory no_memory)) }
 {
     if let Some(place) = unsorted(whiteouts) {
         return Err(RestoreError::Malformed(Part::Whiteout(place), Fault::NotInOrder));
@@ -148,6 +163,8 @@ fn add_whiteout(layer: &mut Layer, path: &Path, part: Part) -> Result<(), Restor
     ensures ok { OnOk result (saved layer.new ≡ record (saved layer.old) { whiteouts = whiteouts_of layer.old.entries ++ path.now ∷ [] }) }
     ensures malformed { IfErr result (λ e. Refutes e (λ t. LacksNodeWithRoom layer.old t path.now Node.Whiteout)) }
     ensures layer { OnOk result (IsLayer layer.new) }
+    ensures made { OnOk result (put_whiteout part layer.old path.now ≡ Ok layer.new) }
+    ensures refused { IfErr result (λ e. (put_whiteout part layer.old path.now ≡ Err e) ⊎ (e ≡ OutOfMemory no_memory)) }
 {
     if let Some(fault) = obstacle(layer, path) {
         return Err(RestoreError::Malformed(part, fault));
@@ -167,6 +184,8 @@ fn add_files(layer: &mut Layer, files: Vec<SavedFile>) -> Result<(), RestoreErro
     ensures tight { OnOk result (HasLeastNext layer.new) }
     ensures malformed { IfErr result (λ e. Refutes e (λ t. HasSameDirs layer.old t × (files_of t.entries t.bodies ≡ files.items))) }
     ensures layer { OnOk result (IsLayer layer.new) }
+    ensures made { OnOk result (put_each put_file 0 layer.old files.items ≡ Ok layer.new) }
+    ensures refused { IfErr result (λ e. (put_each put_file 0 layer.old files.items ≡ Err e) ⊎ (e ≡ OutOfMemory no_memory)) }
 {
     let mut place = 0;
     for file in files {
@@ -183,6 +202,8 @@ fn add_file(layer: &mut Layer, file: SavedFile, place: usize) -> Result<(), Rest
     ensures next { OnOk result (layer.new.next ≡ file.number + 1) }
     ensures malformed { IfErr result (λ e. Refutes e (λ t. HasNext layer.old t file)) }
     ensures layer { OnOk result (IsLayer layer.new) }
+    ensures made { OnOk result (put_file place layer.old file ≡ Ok layer.new) }
+    ensures refused { IfErr result (λ e. (put_file place layer.old file ≡ Err e) ⊎ (e ≡ OutOfMemory no_memory)) }
 {
     let SavedFile {
         number,
@@ -216,6 +237,8 @@ fn add_first(
     ensures next { OnOk result (layer.new.next ≡ number + 1) }
     ensures malformed { IfErr result (λ e. Refutes e (λ t. (layer.old.next ≤ number) × (body t number ≡ Some content) × LacksNodeWithRoom layer.old t name.now (leaf_node number content))) }
     ensures layer { OnOk result (IsLayer layer.new) }
+    ensures made { OnOk result (put_first part number content layer.old name.now ≡ Ok layer.new) }
+    ensures refused { IfErr result (λ e. (put_first part number content layer.old name.now ≡ Err e) ⊎ (e ≡ OutOfMemory no_memory)) }
 {
     if number < layer.next_number() {
         return Err(RestoreError::Malformed(part, Fault::BadNumber));
@@ -247,6 +270,8 @@ fn add_names(
     ensures malformed { IfErr result (λ e. Refutes e (λ t. HasNames layer.old t number names.now)) }
     ensures rest { OnOk result (layer.new ≡ record layer.old { entries = layer.new.entries }) }
     ensures layer { OnOk result (IsLayer layer.new) }
+    ensures made { (b : BodyValue) → body layer.old number ≡ Some b → OnOk result (put_other_names file number b layer.old names.now ≡ Ok layer.new) }
+    ensures refused { (b : BodyValue) → body layer.old number ≡ Some b → IfErr result (λ e. (put_other_names file number b layer.old names.now ≡ Err e) ⊎ (e ≡ OutOfMemory no_memory)) }
 {
     for (place, path) in names.iter().enumerate() {
         let name = place + 1;
@@ -265,6 +290,8 @@ fn add_name(layer: &mut Layer, number: u32, name: &Path, part: Part) -> Result<(
     ensures malformed { IfErr result (λ e. Refutes e (λ t. (b : BodyValue) × LacksNode layer.old t name.now (leaf_node number b))) }
     ensures rest { OnOk result (layer.new ≡ record layer.old { entries = layer.new.entries }) }
     ensures layer { OnOk result (IsLayer layer.new) }
+    ensures made { (b : BodyValue) → body layer.old number ≡ Some b → OnOk result (put_name part number b layer.old name.now ≡ Ok layer.new) }
+    ensures refused { (b : BodyValue) → body layer.old number ≡ Some b → IfErr result (λ e. (put_name part number b layer.old name.now ≡ Err e) ⊎ (e ≡ OutOfMemory no_memory)) }
 {
     if let Some(fault) = obstacle(layer, name) {
         return Err(RestoreError::Malformed(part, fault));

@@ -1,7 +1,11 @@
-use Rattle.std.proofs.Common.{◌≡◌, ℕ, ◌+◌, ◌<◌, get_or, []}
+use Rattle.std.proofs.Common.{◌≡◌, ℕ, ◌+◌, ◌-◌, ◌<◌, drop, get_or, []}
 use Rattle.std.specs.declared.cmp.Ordering.TheVariants.{Less}
 use Rattle.snap_layer.specs.Tree.{path_cmp}
+use Rattle.snap_saved.specs.Restored.{unsorted, unsorted_from}
 use Rattle.snap_saved.proofs.order.unsorted.Given as goal
 
 abbrev pub invariant-loop-place : goal.invariant-loop-place
-invariant-loop-place l = (k : ℕ) → k + 1 < l.place → path_cmp (get_or l.paths k []) (get_or l.paths (k + 1) []) ≡ Less
+invariant-loop-place l = record {
+  rises : (k : ℕ) → k + 1 < l.place → path_cmp (get_or l.paths k []) (get_or l.paths (k + 1) []) ≡ Less;
+  left : unsorted_from l.place (get_or l.paths (l.place - 1) []) (drop l.place l.paths) ≡ unsorted l.paths;
+}

@@ -14,8 +14,10 @@ use Rattle.snap_layer.specs.Tree.{Tree, body, leaf_node}
 use Rattle.snap_saved.specs.declared.error.RestoreError.{RestoreError}
 use Rattle.snap_saved.specs.Refusing.{Refutes, LacksNodeWithRoom, HasNext, HasNames}
 use Rattle.snap_saved.proofs.Under.{names_sorted}
-use Rattle.snap_saved.proofs.Fitting.{has_file, file_reads, named_file, first_fits, others_await}
+use Rattle.snap_saved.proofs.Fitting.{has_file, file_reads, named_file, first_fits, last_body, others_await}
 use Rattle.snap_saved.proofs.Refuting.{refutes_later, refutes_more}
+use Rattle.snap_saved.specs.Restored.{put_file, put_named, put_other_names, unsorted}
+use Rattle.snap_saved.proofs.InTurn.{named_goes, refused_same}
 use Rattle.snap_saved.proofs.restoring.add_file.Goals as goal
 
 empty : (ps : List Names) → length ps ≡ 0 → ps ≡ []
@@ -33,7 +35,7 @@ add_names-requires-clause-rises c =
     let others = c.in-Some.others.now in
     let names = first_names c.args.layer.now c.add_first.new.layer c.file.inside.number first c.requires.layer c.in_ok-add_first.ensures.numbers c.in_ok-add_first.ensures.names in
     let all : c.deref-2.result.now ≡ first ∷ others = c.deref-2.ensures.value ∙ sym c.deref.ensures.value ∙ c.in-Some.ensures.cases.0 in
-    subst (IsStrictlySortedBy path_cmp) (all ∙ ap (λ (l : List Names). l ++ others) (sym names)) c.in_default-unsorted.ensures
+    subst (IsStrictlySortedBy path_cmp) (all ∙ ap (λ (l : List Names). l ++ others) (sym names)) c.in_default-unsorted.ensures.sorted
 
 pub returns-clause-ok : goal.returns-clause-ok
 returns-clause-ok c =
@@ -58,7 +60,7 @@ returns-in-Some-unsorted-clause-malformed c = λ t ok next.
     let f = c.args.file in
     let names = (file_reads t ok f (has_file c.args.layer.now t c.requires.layer ok f next)).1 in
     let listed : f.names ≡ c.deref-2.result.now = ap (λ (g : SavedFileValue). g.names) (sym c.file.view_is) ∙ sym c.deref-2.ensures.value in
-    c.in-Some-unsorted.ensures (subst (IsStrictlySortedBy path_cmp) (names ∙ listed) (names_sorted t ok f.number))
+    c.in-Some-unsorted.ensures.sorted (subst (IsStrictlySortedBy path_cmp) (names ∙ listed) (names_sorted t ok f.number))
 
 pub returns-in_err-add_first-clause-malformed : goal.returns-in_err-add_first-clause-malformed
 returns-in_err-add_first-clause-malformed c =
@@ -90,3 +92,35 @@ returns-clause-malformed c =
 pub returns-clause-next : goal.returns-clause-next
 returns-clause-next c =
     on_ok_weaker c.add_names.result (λ rest. ap (λ (x : Tree). x.next) rest ∙ c.in_ok-add_first.ensures.next ∙ ap (λ (g : SavedFileValue). g.number + 1) c.file.view_is) c.add_names.ensures.rest
+
+pub returns-clause-made : goal.returns-clause-made
+returns-clause-made c =
+    let u = c.args.layer.now in
+    let v = c.add_first.new.layer in
+    let k = c.file.inside.number in
+    let b = c.file.inside.body in
+    let first = c.in-Some.first.now in
+    let others = c.in-Some.others.now in
+    let splits : c.file.inside.names.items ≡ first ∷ others = sym c.deref.ensures.value ∙ c.in-Some.ensures.cases.0 in
+    let listed : c.deref-2.result.now ≡ first ∷ others = c.deref-2.ensures.value ∙ splits in
+    let there : body v k ≡ Some b = last_body u.bodies v c.in_ok-add_first.ensures.layer k b c.in_ok-add_first.ensures.bodies in
+    let goes = named_goes c.args.place k b u first others (ap unsorted (sym listed) ∙ sym c.in_default-unsorted.ensures.first) v c.in_ok-add_first.ensures.made in
+    on_ok_weaker c.add_names.result
+    (λ made. ap (put_file c.args.place u) (sym c.file.view_is) ∙ ap (put_named c.args.place k b u) splits ∙ goes ∙ made)
+    (c.add_names.ensures.made b there)
+
+pub returns-clause-refused : goal.returns-clause-refused
+returns-clause-refused c =
+    let u = c.args.layer.now in
+    let v = c.add_first.new.layer in
+    let k = c.file.inside.number in
+    let b = c.file.inside.body in
+    let first = c.in-Some.first.now in
+    let others = c.in-Some.others.now in
+    let splits : c.file.inside.names.items ≡ first ∷ others = sym c.deref.ensures.value ∙ c.in-Some.ensures.cases.0 in
+    let listed : c.deref-2.result.now ≡ first ∷ others = c.deref-2.ensures.value ∙ splits in
+    let there : body v k ≡ Some b = last_body u.bodies v c.in_ok-add_first.ensures.layer k b c.in_ok-add_first.ensures.bodies in
+    let goes = named_goes c.args.place k b u first others (ap unsorted (sym listed) ∙ sym c.in_default-unsorted.ensures.first) v c.in_ok-add_first.ensures.made in
+    refused_same c.add_names.result (put_other_names c.args.place k b v others) (put_file c.args.place u c.args.file)
+    (ap (put_file c.args.place u) (sym c.file.view_is) ∙ ap (put_named c.args.place k b u) splits ∙ goes)
+    (c.add_names.ensures.refused b there)

@@ -7,4 +7,4 @@ no_bool : true ≡ false → ⊥
 no_bool e = cc
 
 pub returns-then-not-is_meta-clause-malformed : goal.returns-then-not-is_meta-clause-malformed
-returns-then-not-is_meta-clause-malformed c = λ t ok such. no_bool (sym (c.if-not-is_meta.ensures.1 (subst IsMeta such.0 (root_good t ok))))
+returns-then-not-is_meta-clause-malformed c = λ t ok such. no_bool (sym (c.if-not-is_meta.ensures.fits.1 (subst IsMeta such.0 (root_good t ok))))
