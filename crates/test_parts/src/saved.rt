@@ -18,7 +18,7 @@ fn a_layer_comes_back(rt: HostRuntime) {
     let added = layer.add_linked(&file, &link, Body::File { meta, content });
     added.expect(&rt, "memory for a file");
     let parts = save(rt.alloc(), &layer).expect(&rt, "memory for a saved layer");
-    let next = parts.next_number();
+    let next = parts.next;
     prove!(next == 2);
     let again = restore(rt.alloc(), parts).expect(&rt, "the layer");
     let same = again == layer;
@@ -65,16 +65,20 @@ fn refusal<R: Abort>(rt: &R, alloc: Global, given: &Given<'_>) -> String {
         meta: Meta { mode: 420 },
         content: Content::empty(alloc),
     };
-    let file = SavedFile::new(given.number, body, paths(rt, alloc, given.names));
-    let parts = Saved::new(
-        Meta { mode: root },
-        false,
-        dirs(rt, alloc, below, given.dirs),
-        paths(rt, alloc, given.whiteouts),
-        Vec::from_array(alloc, [file]).expect(rt, "memory for a file"),
-        given.next,
-        given.most,
-    );
+    let file = SavedFile {
+        number: given.number,
+        body,
+        names: paths(rt, alloc, given.names),
+    };
+    let parts = Saved {
+        meta: Meta { mode: root },
+        opaque: false,
+        dirs: dirs(rt, alloc, below, given.dirs),
+        whiteouts: paths(rt, alloc, given.whiteouts),
+        files: Vec::from_array(alloc, [file]).expect(rt, "memory for a file"),
+        next: given.next,
+        most: given.most,
+    };
     match restore(alloc, parts) {
         Ok(_) => String::new(alloc),
         Err(error) => format!(in alloc; "{error}").expect(rt, "memory for a text"),
