@@ -2,7 +2,7 @@ pub mod Inserting
 pub mod Adding
 pub mod Rising
 pub mod Once
-pub mod Gathering
+pub mod Walking
 pub mod Counted
 pub mod Under
 pub mod Fitting
@@ -10,3 +10,5 @@ pub mod Refuting
 pub mod InTurn
 pub mod Placing
 pub mod Back
+pub mod ByPiece
+pub mod PiecesBack

@@ -5,3 +5,4 @@ pub mod Walked
 pub mod Refusing
 pub mod Limits
 pub mod Restored
+pub mod Pieces

@@ -5,7 +5,7 @@ ghost use Rattle.snap_saved.specs.Refusing.{refusal};
 
 use snap_layer::LayerError;
 use snap_path::NoMemory;
-use std::alloc::AllocError;
+use std::alloc::{AllocError, AllocFailed};
 use std::fmt;
 use thiserror::Error;
 
@@ -93,6 +93,40 @@ impl From<AllocError> for RestoreError {
 
     fn from(refused: AllocError) -> RestoreError {
         RestoreError::OutOfMemory(refused.into())
+    }
+}
+
+/// Why a piece isn't put.
+#[derive(Clone, Copy, Debug, PartialEq, Eq, Error)]
+pub enum PieceError {
+    /// Bytes or a name where no file or symlink has begun, or bytes where it keeps none.
+    #[error("not in its place")]
+    Misplaced,
+    /// With these bytes the file has more than 1,048,576.
+    #[error("more than 1,048,576 bytes")]
+    TooBig,
+    /// A growth was refused.
+    #[error("out of memory")]
+    OutOfMemory(NoMemory),
+}
+
+impl From<AllocError> for PieceError {
+    ghost use Rattle.snap_saved.specs.declared.error.PieceError.TheVariants.{OutOfMemory};
+
+    ghost from_gives = { λ _ e. e ≡ OutOfMemory no_memory };
+
+    fn from(refused: AllocError) -> PieceError {
+        PieceError::OutOfMemory(refused.into())
+    }
+}
+
+impl<T: Drop> From<AllocFailed<T>> for PieceError {
+    ghost use Rattle.snap_saved.specs.declared.error.PieceError.TheVariants.{OutOfMemory};
+
+    ghost from_gives = { λ _ e. e ≡ OutOfMemory no_memory };
+
+    fn from(failed: AllocFailed<T>) -> PieceError {
+        PieceError::OutOfMemory(failed.into())
     }
 }
 

@@ -8,16 +8,21 @@
 mod dir;
 mod error;
 mod file;
+mod gathering;
 mod limits;
 mod names;
 mod order;
+mod piece;
+mod pieces;
 mod restoring;
 mod saved;
 mod saving;
 
 pub use dir::SavedDir;
-pub use error::{Fault, Part, RestoreError};
+pub use error::{Fault, Part, PieceError, RestoreError};
 pub use file::SavedFile;
+pub use gathering::Gathering;
+pub use piece::{FileKind, Head, PIECE_BYTES, Piece};
 pub use restoring::restore;
 pub use saved::Saved;
 pub use saving::save;

@@ -5,7 +5,7 @@ use Rattle.std.proofs.lemmas.Bool.{cond-true, cond-false}
 use Rattle.snap_path.specs.Text.{Names}
 use Rattle.snap_layer.proofs.Looks.{split_number}
 use Rattle.snap_saved.specs.Walked.{saved_name_at, listed_names}
-use Rattle.snap_saved.proofs.Gathering.{nothing_more, one_more, name_here, name_other, name_none}
+use Rattle.snap_saved.proofs.Walking.{nothing_more, one_more, name_here, name_other, name_none}
 use Rattle.snap_saved.proofs.names.names_by_number.Goals as goal
 use Rattle.snap_saved.proofs.names.names_by_number.Goals.{in-Some+in_ok-clone+in_ok-add_name, in_default}
 

@@ -1,7 +1,7 @@
 use Rattle.std.proofs.Common.{◌∷◌, ◌++◌, List, [], sym, ap, ◌∙◌}
 use Rattle.snap_saved.specs.declared.dir.SavedDir.{SavedDir}
 use Rattle.snap_saved.specs.Walked.{saved_dir_at}
-use Rattle.snap_saved.proofs.Gathering.{nothing_more, one_more}
+use Rattle.snap_saved.proofs.Walking.{nothing_more, one_more}
 use Rattle.snap_saved.proofs.saving.dirs_among.Goals as goal
 use Rattle.snap_saved.proofs.saving.dirs_among.Goals.{in-Some+in_ok-push, in_default}
 

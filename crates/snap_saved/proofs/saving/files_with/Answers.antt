@@ -2,7 +2,7 @@ use Rattle.std.proofs.Common.{◌≡◌, ◌++◌, ◌∷◌, List, [], sym, ap,
 use Rattle.std.specs.Prelude.{is_some}
 use Rattle.snap_saved.specs.Values.{SavedFileValue}
 use Rattle.snap_saved.specs.Saved.{file_names}
-use Rattle.snap_saved.proofs.Gathering.{AreFirst, AreFirst-none, next_file, AreFirst-all}
+use Rattle.snap_saved.proofs.Walking.{AreFirst, AreFirst-none, next_file, AreFirst-all}
 use Rattle.snap_saved.proofs.saving.files_with.Goals as goal
 
 pub loop-number-init : goal.loop-number-init

@@ -2,7 +2,7 @@ use Rattle.std.proofs.Common.{◌≡◌, ℕ, ◌<◌, length}
 use Rattle.snap_layer.proofs.Above.{above}
 use Rattle.snap_saved.specs.Saved.{file_names}
 use Rattle.snap_saved.specs.Walked.{listed_names}
-use Rattle.snap_saved.proofs.Gathering.{AreFirst}
+use Rattle.snap_saved.proofs.Walking.{AreFirst}
 use Rattle.snap_saved.proofs.saving.files_with.Given as goal
 
 -- the first files are there, and the names of the others are left

@@ -2,7 +2,7 @@ use Rattle.std.proofs.Common.{◌≡◌, ap, ◌∙◌}
 use Rattle.std.specs.Prelude.{filter_map}
 use Rattle.snap_saved.specs.Saved.{dirs_of, whiteouts_of, files_of}
 use Rattle.snap_saved.specs.Walked.{saved_dir_at, whiteout_at, saved_name_at}
-use Rattle.snap_saved.proofs.Gathering.{dirs_by_path, whiteouts_by_path, names_by_path}
+use Rattle.snap_saved.proofs.Walking.{dirs_by_path, whiteouts_by_path, names_by_path}
 use Rattle.snap_saved.proofs.saving.save.Goals as goal
 
 pub files_with-requires-clause-names : goal.files_with-requires-clause-names

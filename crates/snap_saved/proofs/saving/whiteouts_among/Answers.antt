@@ -1,7 +1,7 @@
 use Rattle.std.proofs.Common.{◌≡◌, [], ◌∷◌, ◌++◌, Some, None, sym, ap, ◌∙◌}
 use Rattle.std.specs.Prelude.{if◌then◌else◌, Bool}
 use Rattle.snap_saved.specs.Walked.{whiteout_at}
-use Rattle.snap_saved.proofs.Gathering.{nothing_more, one_more}
+use Rattle.snap_saved.proofs.Walking.{nothing_more, one_more}
 use Rattle.snap_saved.proofs.saving.whiteouts_among.Goals as goal
 use Rattle.snap_saved.proofs.saving.whiteouts_among.Goals.{then-is_whiteout_at+in_ok-clone+in_ok-push, else-is_whiteout_at}
 

@@ -1,4 +1,4 @@
--- The saved form as it is gathered: path by path, and number by number.
+-- The saved form as it is read: path by path, and number by number.
 use Rattle.std.proofs.Common.{◌≡◌, ℕ, ◌+◌, ◌<◌, Bool, List, [], ◌∷◌, ◌++◌, length, take, get_or, Option, Some, None, refl, sym, ap, ◌∙◌, arith, append_assoc, append-nil}
 use Rattle.std.specs.Prelude.{filter_map, find, nat_lt, option_and_then}
 use Rattle.std.specs.List.{AllByRecursion, cons_option}
