@@ -28,7 +28,7 @@ use Rattle.snap_saved.specs.declared.piece.Piece.TheVariants as piece_kinds
 use Rattle.snap_saved.specs.Values.{SavedFileValue, SavedValue}
 use Rattle.snap_saved.specs.Saved.{files_of, saved}
 use Rattle.snap_saved.specs.Restored.{restored_layer}
-use Rattle.snap_saved.specs.Pieces.{GatheringValue, begun_layer, bytes_in_at_most, file_closed, file_pieces, files_with, gathered, gathered_layer, head_of, in_file, layer_of_pieces, pieces_of, with_next_piece, with_pieces}
+use Rattle.snap_saved.specs.Pieces.{GatheringValue, begun_layer, bytes_in_at_most, file_closed, file_pieces, files_with, gathered_parts, gathered_layer, head_of, in_file, layer_of_pieces, pieces_of, with_next_piece, with_pieces}
 use Rattle.snap_saved.proofs.Back.{layer_of_saved}
 use Rattle.snap_saved.proofs.Refuting.{body_good}
 
@@ -109,19 +109,19 @@ file_put number (bodies.Symlink target) names g good = names_put names (file_clo
 abbrev HasGoodBody : SavedFileValue → Type 0
 HasGoodBody f = IsBody f.body
 
-files_put : (fs : List SavedFileValue) (g : GatheringValue) → AllByRecursion HasGoodBody fs → (h : GatheringValue) × (after (Ok g) (flat_map file_pieces fs) ≡ Ok h) × (gathered h ≡ record (gathered g) { files = files_with g.files g.file ++ fs })
-files_put [] g good = (g, refl, λ i. record (gathered g) { files = sym (append-nil (files_with g.files g.file)) i })
+files_put : (fs : List SavedFileValue) (g : GatheringValue) → AllByRecursion HasGoodBody fs → (h : GatheringValue) × (after (Ok g) (flat_map file_pieces fs) ≡ Ok h) × (gathered_parts h ≡ record (gathered_parts g) { files = files_with g.files g.file ++ fs })
+files_put [] g good = (g, refl, λ i. record (gathered_parts g) { files = sym (append-nil (files_with g.files g.file)) i })
 files_put (f ∷ fs) g good =
     let more = files_put fs (record (file_closed g) { file = Some f }) good.1 in (
       more.0,
       after_both (file_pieces f) (flat_map file_pieces fs) (Ok g)
           ∙ ap (λ (r : Result GatheringValue PieceError). after r (flat_map file_pieces fs)) (file_put f.number f.body f.names g good.0)
           ∙ more.1,
-      more.2 ∙ (λ i. record (gathered g) { files = append_assoc (files_with g.files g.file) (f ∷ []) fs i }),
+      more.2 ∙ (λ i. record (gathered_parts g) { files = append_assoc (files_with g.files g.file) (f ∷ []) fs i }),
     )
 
 -- what is gathered of the pieces of a saved layer
-pub pieces_gathered : (s : SavedValue) → AllByRecursion HasGoodBody s.files → (g : GatheringValue) × (with_pieces (begun_layer (head_of s)) (pieces_of s) ≡ Ok g) × (gathered g ≡ s)
+pub pieces_gathered : (s : SavedValue) → AllByRecursion HasGoodBody s.files → (g : GatheringValue) × (with_pieces (begun_layer (head_of s)) (pieces_of s) ≡ Ok g) × (gathered_parts g ≡ s)
 pieces_gathered s good =
     let ds = map piece_kinds.Dir s.dirs in
     let ws = map piece_kinds.Whiteout s.whiteouts in

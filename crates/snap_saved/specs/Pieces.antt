@@ -56,7 +56,7 @@ head_of s = record { meta = s.meta; opaque = s.opaque; next = s.next; most = s.m
 
 -- ---- what pieces make
 
--- a layer as far as its pieces have come: its head, its directories, its whiteouts, its files and symlinks, and the one whose pieces are coming
+-- what is gathered of a layer: its head, its directories, its whiteouts, its files and symlinks but the last, and the last with the pieces that it has yet
 pub record GatheringValue : Type 0 where
   pub head : Head
   pub dirs : List SavedDir
@@ -78,35 +78,35 @@ body_with (file_kinds.Symlink target) bs = bodies.Symlink target
 abbrev pub begun_file : ℕ → FileKind → SavedFileValue
 begun_file number kind = record { number = number; body = body_with kind []; names = [] }
 
--- with further bytes, where it keeps them: at most 1048576
+-- one with further bytes, where its body keeps them: at most 1048576
 abbrev pub with_bytes : List ℕ → SavedFileValue → Body → Result SavedFileValue PieceError
 with_bytes more f (bodies.File meta (contents.Bytes bs)) = if nat_le (length bs + length more) most_file_bytes then Ok (record f { body = bodies.File meta (contents.Bytes (bs ++ more)) }) else Err TooBig
 with_bytes more f other = Err Misplaced
 
--- with one more name
+-- one with one more name
 abbrev pub with_file_name : Names → SavedFileValue → SavedFileValue
 with_file_name p f = record f { names = f.names ++ p ∷ [] }
 
--- the files with the one whose pieces were coming
+-- the files, and the one whose pieces were the last
 abbrev pub files_with : List SavedFileValue → Option SavedFileValue → List SavedFileValue
 files_with fs (Some f) = fs ++ f ∷ []
 files_with fs None = fs
 
--- no piece of that one comes any more
+-- no piece of its last file comes any more
 abbrev pub file_closed : GatheringValue → GatheringValue
 file_closed g = record g { files = files_with g.files g.file; file = None }
 
--- the layer with its last file as the answer says
+-- what is gathered with this as its last file, or the error
 abbrev pub in_file : GatheringValue → Result SavedFileValue PieceError → Result GatheringValue PieceError
 in_file g (Ok f) = Ok (record g { file = Some f })
 in_file g (Err e) = Err e
 
--- with a piece of the file or symlink whose pieces are coming
+-- what is gathered with a change of its last file or symlink, where one has begun
 abbrev pub with_file_piece : GatheringValue → Option SavedFileValue → (SavedFileValue → Result SavedFileValue PieceError) → Result GatheringValue PieceError
 with_file_piece g (Some f) change = in_file g (change f)
 with_file_piece g None change = Err Misplaced
 
--- with a piece more, or its error
+-- what is gathered with one more piece, or why it is not put
 abbrev pub with_piece : GatheringValue → Piece → Result GatheringValue PieceError
 with_piece g (piece_kinds.Dir d) = Ok (record g { dirs = g.dirs ++ d ∷ [] })
 with_piece g (piece_kinds.Whiteout p) = Ok (record g { whiteouts = g.whiteouts ++ p ∷ [] })
@@ -114,22 +114,22 @@ with_piece g (piece_kinds.File number kind) = Ok (record (file_closed g) { file 
 with_piece g (piece_kinds.Bytes more) = with_file_piece g g.file (λ f. with_bytes more f f.body)
 with_piece g (piece_kinds.Name p) = with_file_piece g g.file (λ f. Ok (with_file_name p f))
 
--- with a piece more, unless an error came before it
+-- the same after an earlier answer, of which an error stays
 abbrev pub with_next_piece : Result GatheringValue PieceError → Piece → Result GatheringValue PieceError
 with_next_piece (Ok g) piece = with_piece g piece
 with_next_piece (Err e) piece = Err e
 
--- with all pieces one after another, or the first error
+-- what is gathered with all pieces one after another, or the first error
 abbrev pub with_pieces : GatheringValue → List Piece → Result GatheringValue PieceError
 with_pieces g pieces = fold with_next_piece (Ok g) pieces
 
--- what is gathered, as a saved layer
-abbrev pub gathered : GatheringValue → SavedValue
-gathered g = record { meta = g.head.meta; opaque = g.head.opaque; dirs = g.dirs; whiteouts = g.whiteouts; files = files_with g.files g.file; next = g.head.next; most = g.head.most }
+-- the parts that are gathered
+abbrev pub gathered_parts : GatheringValue → SavedValue
+gathered_parts g = record { meta = g.head.meta; opaque = g.head.opaque; dirs = g.dirs; whiteouts = g.whiteouts; files = files_with g.files g.file; next = g.head.next; most = g.head.most }
 
 -- the layer of what is gathered, or why there is none
 abbrev pub gathered_layer : GatheringValue → Result Tree RestoreError
-gathered_layer g = restored_layer (gathered g)
+gathered_layer g = restored_layer (gathered_parts g)
 
 -- the layer of the pieces one after another, where they make one
 abbrev pub layer_of_pieces : Head → List Piece → Option Tree

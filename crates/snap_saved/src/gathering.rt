@@ -146,10 +146,12 @@ impl Gathering {
 
     /// No piece of its last file comes any more.
     fn close_file(&mut self) -> Result<(), AllocError>
-        ensures { OnOk result (self.new ≡ file_closed self.old) }
+        ensures ok { OnOk result (self.new ≡ file_closed self.old) }
+        ensures err { OnErr result (self.new ≡ self.old) }
     {
+        self.files.reserve(1)?;
         if let Some(file) = self.file.take() {
-            self.files.push(file.close())?;
+            self.files.push_reserved(file.close());
         }
         Ok(())
     }
@@ -184,13 +186,12 @@ impl Gathering {
     /// Adds a piece, which comes after those that were added.
     ///
     /// `Misplaced` for bytes where the last file or symlink keeps none, and for bytes and names where none has begun;
-    /// `TooBig` where a file has more than 1,048,576 bytes; `OutOfMemory` where memory is refused. After an error the layer is
-    /// as it was, but for `OutOfMemory`: a part of it may be lost. Takes memory for the piece. The cost is constant, but
-    /// for a copy of bytes.
+    /// `TooBig` where a file has more than 1,048,576 bytes; `OutOfMemory` where memory is refused. After an error the
+    /// layer is as it was. Takes memory for the piece. The cost is constant, but for a copy of bytes.
     pub fn put(&mut self, piece: Piece) -> Result<(), PieceError>
         ensures ok { OnOk result (with_piece self.old piece ≡ Ok self.new) }
         ensures refused { IfErr result (λ e. (with_piece self.old piece ≡ Err e) ⊎ (e ≡ piece_errors.OutOfMemory no_memory)) }
-        ensures err { IfErr result (λ e. (self.new ≡ self.old) ⊎ (e ≡ piece_errors.OutOfMemory no_memory)) }
+        ensures err { OnErr result (self.new ≡ self.old) }
     {
         match piece {
             Piece::Dir(dir) => self.dirs.push(dir)?,

@@ -112,7 +112,7 @@ impl Saved {
     /// with its bytes, at most 262,144 in a piece, and its names. [`Gathering`](super::gathering::Gathering) makes the
     /// layer of them again.
     ///
-    /// It fails only where memory is refused. Takes the memory of a list, and for a copy of each file's bytes. Cost: the
+    /// It fails only where memory is refused. Takes memory for the list, and for a copy of each file's bytes. Cost: the
     /// number of pieces, and these bytes.
     pub fn into_pieces(self, alloc: Global) -> Result<(Head, Vec<Piece>), AllocError>
         ensures head { IfOk result (λ p. p.0 ≡ head_of self) }
