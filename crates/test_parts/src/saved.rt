@@ -1,9 +1,12 @@
-// Layers that are saved and restored, and parts that make no layer.
+// Layers that are saved and restored, at once and piece by piece, and parts that make no layer.
+ghost use Rattle.std.specs.Prelude.{◌≡◌, IfSome};
+ghost use Rattle.snap_layer.specs.Layers.{IsLayer};
+
 use crate::setup::{equal, layer, path};
-use snap_layer::{Body, Bytes, Content, Meta};
+use snap_layer::{Body, Bytes, Content, Layer, Meta};
 use snap_path::Path;
 use snap_path::limits::DEFAULT_MODE;
-use snap_saved::{Saved, SavedDir, SavedFile, restore, save};
+use snap_saved::{Gathering, Piece, PieceError, Saved, SavedDir, SavedFile, restore, save};
 use std::alloc::Global;
 use std::process::Abort;
 
@@ -23,6 +26,54 @@ fn a_layer_comes_back(rt: HostRuntime) {
     let again = restore(rt.alloc(), parts).expect(&rt, "the layer");
     let same = again == layer;
     prove!(same);
+}
+
+// The layer of a layer's pieces is the same, wherever memory suffices.
+fn again(alloc: Global, layer: &Layer) -> Option<Layer>
+    requires { IsLayer layer.now }
+    ensures { IfSome result (λ l. l ≡ layer.now) }
+{
+    let Ok(saved) = save(alloc, layer) else {
+        return None;
+    };
+    let Ok((head, pieces)) = saved.into_pieces(alloc) else {
+        return None;
+    };
+    let mut gathering = Gathering::begin(alloc, head);
+    for piece in pieces {
+        let Ok(()) = gathering.put(piece) else {
+            return None;
+        };
+    }
+    gathering.restore().ok()
+}
+
+// Its file has two pieces of bytes, of which the second has one.
+#[test]
+fn pieces_make_the_layer(rt: HostRuntime) {
+    let mut layer = layer(&rt, rt.alloc(), DEFAULT_MODE);
+    let (file, link) = (path(&rt, rt.alloc(), "/f"), path(&rt, rt.alloc(), "/g"));
+    let bytes = Vec::from_elem(rt.alloc(), 120, 262_145).expect(&rt, "memory for bytes");
+    assert!(rt; layer.has_rooms(&file, &link));
+    let content = Content::Bytes(Bytes::new(bytes));
+    let meta = Meta { mode: 420 };
+    let added = layer.add_linked(&file, &link, Body::File { meta, content });
+    added.expect(&rt, "memory for a file");
+    let again = again(rt.alloc(), &layer).expect(&rt, "the layer");
+    let same = again == layer;
+    prove!(same);
+}
+
+// No file has begun.
+#[test]
+fn a_piece_has_its_place(rt: HostRuntime) {
+    let layer = layer(&rt, rt.alloc(), DEFAULT_MODE);
+    let saved = save(rt.alloc(), &layer).expect(&rt, "memory for a saved layer");
+    let (head, _) = saved.into_pieces(rt.alloc()).expect(&rt, "memory for pieces");
+    let mut gathering = Gathering::begin(rt.alloc(), head);
+    let put = gathering.put(Piece::Name(path(&rt, rt.alloc(), "/f")));
+    let refused = put == Err(PieceError::Misplaced);
+    assert!(rt; refused);
 }
 
 fn paths<R: Abort>(rt: &R, alloc: Global, texts: &[&str]) -> Vec<Path> {
