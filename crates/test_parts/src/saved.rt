@@ -69,7 +69,9 @@ fn pieces_make_the_layer(rt: HostRuntime) {
 fn a_piece_has_its_place(rt: HostRuntime) {
     let layer = layer(&rt, rt.alloc(), DEFAULT_MODE);
     let saved = save(rt.alloc(), &layer).expect(&rt, "memory for a saved layer");
-    let (head, _) = saved.into_pieces(rt.alloc()).expect(&rt, "memory for pieces");
+    let (head, _) = saved
+        .into_pieces(rt.alloc())
+        .expect(&rt, "memory for pieces");
     let mut gathering = Gathering::begin(rt.alloc(), head);
     let put = gathering.put(Piece::Name(path(&rt, rt.alloc(), "/f")));
     let refused = put == Err(PieceError::Misplaced);
