@@ -28,7 +28,7 @@ use Rattle.snap_saved.specs.declared.piece.Piece.TheVariants as piece_kinds
 use Rattle.snap_saved.specs.Values.{SavedFileValue, SavedValue}
 use Rattle.snap_saved.specs.Saved.{files_of, saved}
 use Rattle.snap_saved.specs.Restored.{restored_layer}
-use Rattle.snap_saved.specs.Pieces.{GatheringValue, begun_layer, bytes_in_at_most, file_closed, file_pieces, files_with, gathered_parts, gathered_layer, head_of, in_file, layer_of_pieces, pieces_of, with_next_piece, with_pieces}
+use Rattle.snap_saved.specs.Pieces.{GatheringValue, begun_layer, bytes_in_at_most, file_closed, file_pieces, gathered_parts, gathered_layer, head_of, in_file, layer_of_pieces, pieces_of, with_next_piece, with_pieces}
 use Rattle.snap_saved.proofs.Back.{layer_of_saved}
 use Rattle.snap_saved.proofs.Refuting.{body_good}
 
@@ -41,13 +41,13 @@ after_both ps qs r = fold-append with_next_piece r ps qs
 
 -- ---- directories and whiteouts
 
-dirs_put : (ds : List SavedDir) (g : GatheringValue) → after (Ok g) (map piece_kinds.Dir ds) ≡ Ok (record g { dirs = g.dirs ++ ds })
-dirs_put [] g = λ i. Ok (record g { dirs = sym (append-nil g.dirs) i })
-dirs_put (d ∷ ds) g = dirs_put ds (record g { dirs = g.dirs ++ d ∷ [] }) ∙ (λ i. Ok (record g { dirs = append_assoc g.dirs (d ∷ []) ds i }))
+dirs_put : (ds : List SavedDir) (g : GatheringValue) → after (Ok g) (map piece_kinds.Dir ds) ≡ Ok (record g { parts = record g.parts { dirs = g.parts.dirs ++ ds } })
+dirs_put [] g = λ i. Ok (record g { parts = record g.parts { dirs = sym (append-nil g.parts.dirs) i } })
+dirs_put (d ∷ ds) g = dirs_put ds (record g { parts = record g.parts { dirs = g.parts.dirs ++ d ∷ [] } }) ∙ (λ i. Ok (record g { parts = record g.parts { dirs = append_assoc g.parts.dirs (d ∷ []) ds i } }))
 
-whiteouts_put : (ps : List Names) (g : GatheringValue) → after (Ok g) (map piece_kinds.Whiteout ps) ≡ Ok (record g { whiteouts = g.whiteouts ++ ps })
-whiteouts_put [] g = λ i. Ok (record g { whiteouts = sym (append-nil g.whiteouts) i })
-whiteouts_put (p ∷ ps) g = whiteouts_put ps (record g { whiteouts = g.whiteouts ++ p ∷ [] }) ∙ (λ i. Ok (record g { whiteouts = append_assoc g.whiteouts (p ∷ []) ps i }))
+whiteouts_put : (ps : List Names) (g : GatheringValue) → after (Ok g) (map piece_kinds.Whiteout ps) ≡ Ok (record g { parts = record g.parts { whiteouts = g.parts.whiteouts ++ ps } })
+whiteouts_put [] g = λ i. Ok (record g { parts = record g.parts { whiteouts = sym (append-nil g.parts.whiteouts) i } })
+whiteouts_put (p ∷ ps) g = whiteouts_put ps (record g { parts = record g.parts { whiteouts = g.parts.whiteouts ++ p ∷ [] } }) ∙ (λ i. Ok (record g { parts = record g.parts { whiteouts = append_assoc g.parts.whiteouts (p ∷ []) ps i } }))
 
 -- ---- a file or symlink
 
@@ -109,26 +109,26 @@ file_put number (bodies.Symlink target) names g good = names_put names (file_clo
 abbrev HasGoodBody : SavedFileValue → Type 0
 HasGoodBody f = IsBody f.body
 
-files_put : (fs : List SavedFileValue) (g : GatheringValue) → AllByRecursion HasGoodBody fs → (h : GatheringValue) × (after (Ok g) (flat_map file_pieces fs) ≡ Ok h) × (gathered_parts h ≡ record (gathered_parts g) { files = files_with g.files g.file ++ fs })
-files_put [] g good = (g, refl, λ i. record (gathered_parts g) { files = sym (append-nil (files_with g.files g.file)) i })
+files_put : (fs : List SavedFileValue) (g : GatheringValue) → AllByRecursion HasGoodBody fs → (h : GatheringValue) × (after (Ok g) (flat_map file_pieces fs) ≡ Ok h) × (gathered_parts h ≡ record (gathered_parts g) { files = (gathered_parts g).files ++ fs })
+files_put [] g good = (g, refl, λ i. record (gathered_parts g) { files = sym (append-nil (gathered_parts g).files) i })
 files_put (f ∷ fs) g good =
     let more = files_put fs (record (file_closed g) { file = Some f }) good.1 in (
       more.0,
       after_both (file_pieces f) (flat_map file_pieces fs) (Ok g)
           ∙ ap (λ (r : Result GatheringValue PieceError). after r (flat_map file_pieces fs)) (file_put f.number f.body f.names g good.0)
           ∙ more.1,
-      more.2 ∙ (λ i. record (gathered_parts g) { files = append_assoc (files_with g.files g.file) (f ∷ []) fs i }),
+      more.2 ∙ (λ i. record (gathered_parts g) { files = append_assoc (gathered_parts g).files (f ∷ []) fs i }),
     )
 
 -- what is gathered of the pieces of a saved layer
-pub pieces_gathered : (s : SavedValue) → AllByRecursion HasGoodBody s.files → (g : GatheringValue) × (with_pieces (begun_layer (head_of s)) (pieces_of s) ≡ Ok g) × (gathered_parts g ≡ s)
+pieces_gathered : (s : SavedValue) → AllByRecursion HasGoodBody s.files → (g : GatheringValue) × (with_pieces (begun_layer (head_of s)) (pieces_of s) ≡ Ok g) × (gathered_parts g ≡ s)
 pieces_gathered s good =
     let ds = map piece_kinds.Dir s.dirs in
     let ws = map piece_kinds.Whiteout s.whiteouts in
     let fs = flat_map file_pieces s.files in
     let begun = begun_layer (head_of s) in
-    let with_dirs = record begun { dirs = s.dirs } in
-    let with_whiteouts = record with_dirs { whiteouts = s.whiteouts } in
+    let with_dirs = record begun { parts = record begun.parts { dirs = s.dirs } } in
+    let with_whiteouts = record with_dirs { parts = record with_dirs.parts { whiteouts = s.whiteouts } } in
     let files = files_put s.files with_whiteouts good in (
       files.0,
       after_both (ds ++ ws) fs (Ok begun)
@@ -142,10 +142,15 @@ module _ (t : Tree) (ok : IsLayer t) where
   bodies_good [] all = tt
   bodies_good (e ∷ bs) all = (body_good t ok e.0 e.1 all.0, bodies_good bs all.1)
 
+-- what is gathered of the pieces of a layer makes it again
+pub layer_gathered : (t : Tree) → IsLayer t → (g : GatheringValue) × (with_pieces (begun_layer (head_of (saved t))) (pieces_of (saved t)) ≡ Ok g) × (gathered_layer g ≡ Ok t)
+layer_gathered t ok =
+    let all = pieces_gathered (saved t) (bodies_good t ok t.bodies (found_each nat_cmp_total t.bodies ok.sorted_numbers)) in
+    (all.0, all.1, ap restored_layer all.2 ∙ layer_of_saved t ok)
+
 -- the pieces of a layer make it again
 pub pieces_back : (t : Tree) → IsLayer t → layer_of_pieces (head_of (saved t)) (pieces_of (saved t)) ≡ Some t
 pieces_back t ok =
-    let all = pieces_gathered (saved t) (bodies_good t ok t.bodies (found_each nat_cmp_total t.bodies ok.sorted_numbers)) in
-    ap (λ (r : Result GatheringValue PieceError). option_and_then (λ (g : GatheringValue). result_ok (gathered_layer g)) (result_ok r)) all.1
-    ∙ ap (λ (s : SavedValue). result_ok (restored_layer s)) all.2
-    ∙ ap (λ (r : Result Tree RestoreError). result_ok r) (layer_of_saved t ok)
+    let made = layer_gathered t ok in
+    ap (λ (r : Result GatheringValue PieceError). option_and_then (λ (g : GatheringValue). result_ok (gathered_layer g)) (result_ok r)) made.1
+    ∙ ap (λ (r : Result Tree RestoreError). result_ok r) made.2

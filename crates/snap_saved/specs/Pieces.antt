@@ -7,7 +7,6 @@ use Rattle.snap_layer.specs.declared.content.Content.TheVariants as contents
 use Rattle.snap_layer.specs.declared.node.Body.{Body}
 use Rattle.snap_layer.specs.declared.node.Body.TheVariants as bodies
 use Rattle.snap_layer.specs.Tree.{Tree}
-use Rattle.snap_saved.specs.declared.dir.SavedDir.{SavedDir}
 use Rattle.snap_saved.specs.declared.error.PieceError.{PieceError}
 use Rattle.snap_saved.specs.declared.error.PieceError.TheVariants.{Misplaced, TooBig}
 use Rattle.snap_saved.specs.declared.error.RestoreError.{RestoreError}
@@ -56,17 +55,14 @@ head_of s = record { meta = s.meta; opaque = s.opaque; next = s.next; most = s.m
 
 -- ---- what pieces make
 
--- what is gathered of a layer: its head, its directories, its whiteouts, its files and symlinks but the last, and the last with the pieces that it has yet
+-- what is gathered of a layer: its parts but for the last file or symlink, and this with the pieces that it has yet
 pub record GatheringValue : Type 0 where
-  pub head : Head
-  pub dirs : List SavedDir
-  pub whiteouts : List Names
-  pub files : List SavedFileValue
+  pub parts : SavedValue
   pub file : Option SavedFileValue
 
 -- before the first piece
 abbrev pub begun_layer : Head → GatheringValue
-begun_layer h = record { head = h; dirs = []; whiteouts = []; files = []; file = None }
+begun_layer h = record { parts = record { meta = h.meta; opaque = h.opaque; dirs = []; whiteouts = []; files = []; next = h.next; most = h.most }; file = None }
 
 -- what a file or symlink has, with these bytes where they are kept
 abbrev pub body_with : FileKind → List ℕ → Body
@@ -87,14 +83,18 @@ with_bytes more f other = Err Misplaced
 abbrev pub with_file_name : Names → SavedFileValue → SavedFileValue
 with_file_name p f = record f { names = f.names ++ p ∷ [] }
 
--- the files, and the one whose pieces were the last
-abbrev pub files_with : List SavedFileValue → Option SavedFileValue → List SavedFileValue
-files_with fs (Some f) = fs ++ f ∷ []
-files_with fs None = fs
+-- parts with one more file, where there is one
+abbrev pub parts_with : SavedValue → Option SavedFileValue → SavedValue
+parts_with s (Some f) = record s { files = s.files ++ f ∷ [] }
+parts_with s None = s
+
+-- the parts that are gathered
+abbrev pub gathered_parts : GatheringValue → SavedValue
+gathered_parts g = parts_with g.parts g.file
 
 -- no piece of its last file comes any more
 abbrev pub file_closed : GatheringValue → GatheringValue
-file_closed g = record g { files = files_with g.files g.file; file = None }
+file_closed g = record { parts = gathered_parts g; file = None }
 
 -- what is gathered with this as its last file, or the error
 abbrev pub in_file : GatheringValue → Result SavedFileValue PieceError → Result GatheringValue PieceError
@@ -108,8 +108,8 @@ with_file_piece g None change = Err Misplaced
 
 -- what is gathered with one more piece, or why it is not put
 abbrev pub with_piece : GatheringValue → Piece → Result GatheringValue PieceError
-with_piece g (piece_kinds.Dir d) = Ok (record g { dirs = g.dirs ++ d ∷ [] })
-with_piece g (piece_kinds.Whiteout p) = Ok (record g { whiteouts = g.whiteouts ++ p ∷ [] })
+with_piece g (piece_kinds.Dir d) = Ok (record g { parts = record g.parts { dirs = g.parts.dirs ++ d ∷ [] } })
+with_piece g (piece_kinds.Whiteout p) = Ok (record g { parts = record g.parts { whiteouts = g.parts.whiteouts ++ p ∷ [] } })
 with_piece g (piece_kinds.File number kind) = Ok (record (file_closed g) { file = Some (begun_file number kind) })
 with_piece g (piece_kinds.Bytes more) = with_file_piece g g.file (λ f. with_bytes more f f.body)
 with_piece g (piece_kinds.Name p) = with_file_piece g g.file (λ f. Ok (with_file_name p f))
@@ -122,10 +122,6 @@ with_next_piece (Err e) piece = Err e
 -- what is gathered with all pieces one after another, or the first error
 abbrev pub with_pieces : GatheringValue → List Piece → Result GatheringValue PieceError
 with_pieces g pieces = fold with_next_piece (Ok g) pieces
-
--- the parts that are gathered
-abbrev pub gathered_parts : GatheringValue → SavedValue
-gathered_parts g = record { meta = g.head.meta; opaque = g.head.opaque; dirs = g.dirs; whiteouts = g.whiteouts; files = files_with g.files g.file; next = g.head.next; most = g.head.most }
 
 -- the layer of what is gathered, or why there is none
 abbrev pub gathered_layer : GatheringValue → Result Tree RestoreError

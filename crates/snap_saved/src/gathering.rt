@@ -1,13 +1,13 @@
 // A layer that is gathered a piece at a time.
-ghost use Rattle.std.specs.Prelude.{◌≡◌, ◌⊎◌, IfErr, IfOk, OnErr, OnOk, Ok, Err};
+ghost use Rattle.std.specs.Prelude.{◌≡◌, ◌⊎◌, IfErr, IfOk, IsErrOf, OnErr, OnOk, Ok, Err};
 ghost use Rattle.snap_path.specs.Memory.{no_memory};
 ghost use Rattle.snap_layer.specs.Layers.{IsLayer};
 ghost use Rattle.snap_saved.specs.Pieces.{begun_file, begun_layer, body_with, file_closed, gathered_layer, with_bytes, with_file_name, with_piece};
+ghost use Rattle.snap_saved.specs.declared.error.PieceError.{PieceError as PieceFault};
 ghost use Rattle.snap_saved.specs.declared.error.PieceError.TheVariants as piece_errors;
 ghost use Rattle.snap_saved.specs.declared.error.RestoreError.TheVariants.{OutOfMemory};
 ghost use Rattle.snap_saved.specs.declared.piece.Piece.TheVariants as piece_kinds;
 
-use super::dir::SavedDir;
 use super::error::{PieceError, RestoreError};
 use super::file::SavedFile;
 use super::piece::{FileKind, Head, Piece};
@@ -37,14 +37,11 @@ impl Model for OpenFile {
     ghost view = { λ f. record { number = f.number; body = body_with f.kind f.bytes.items; names = f.names.items } };
 }
 
-/// A layer, as far as its pieces have come.
+/// A layer, as far as its pieces have come. Contracts see it as a `GatheringValue`.
 #[derive(Debug, Drop)]
 pub struct Gathering {
     alloc: Global,
-    head: Head,
-    dirs: Vec<SavedDir>,
-    whiteouts: Vec<Path>,
-    files: Vec<SavedFile>,
+    parts: Saved,
     file: Option<OpenFile>,
 }
 
@@ -53,7 +50,7 @@ impl Model for Gathering {
 
     ghost Value = { GatheringValue };
 
-    ghost view = { λ g. record { head = g.head; dirs = g.dirs.items; whiteouts = g.whiteouts.items; files = g.files.items; file = g.file } };
+    ghost view = { λ g. record { parts = g.parts; file = g.file } };
 }
 
 /// What it has, with the bytes where they are kept.
@@ -89,6 +86,7 @@ impl OpenFile {
     /// Adds bytes.
     fn add_bytes(&mut self, more: &[u8]) -> Result<(), PieceError>
         ensures ok { OnOk result (with_bytes more.now self.old self.old.body ≡ Ok self.new) }
+        ensures first { (e : PieceFault) → with_bytes more.now self.old self.old.body ≡ Err e → IsErrOf result e }
         ensures refused { IfErr result (λ e. (with_bytes more.now self.old self.old.body ≡ Err e) ⊎ (e ≡ piece_errors.OutOfMemory no_memory)) }
         ensures err { OnErr result (self.new ≡ self.old) }
     {
@@ -134,12 +132,23 @@ impl Gathering {
     pub fn begin(alloc: Global, head: Head) -> Gathering
         ensures { result ≡ begun_layer head }
     {
+        let Head {
+            meta,
+            opaque,
+            next,
+            most,
+        } = head;
         Gathering {
             alloc,
-            head,
-            dirs: Vec::new(alloc),
-            whiteouts: Vec::new(alloc),
-            files: Vec::new(alloc),
+            parts: Saved {
+                meta,
+                opaque,
+                dirs: Vec::new(alloc),
+                whiteouts: Vec::new(alloc),
+                files: Vec::new(alloc),
+                next,
+                most,
+            },
             file: None,
         }
     }
@@ -149,9 +158,9 @@ impl Gathering {
         ensures ok { OnOk result (self.new ≡ file_closed self.old) }
         ensures err { OnErr result (self.new ≡ self.old) }
     {
-        self.files.reserve(1)?;
+        self.parts.files.reserve(1)?;
         if let Some(file) = self.file.take() {
-            self.files.push_reserved(file.close());
+            self.parts.files.push_reserved(file.close());
         }
         Ok(())
     }
@@ -159,6 +168,7 @@ impl Gathering {
     /// Adds bytes to its last file.
     fn add_bytes(&mut self, more: &[u8]) -> Result<(), PieceError>
         ensures ok { OnOk result (with_piece self.old (piece_kinds.Bytes more.now) ≡ Ok self.new) }
+        ensures first { (e : PieceFault) → with_piece self.old (piece_kinds.Bytes more.now) ≡ Err e → IsErrOf result e }
         ensures refused { IfErr result (λ e. (with_piece self.old (piece_kinds.Bytes more.now) ≡ Err e) ⊎ (e ≡ piece_errors.OutOfMemory no_memory)) }
         ensures err { OnErr result (self.new ≡ self.old) }
     {
@@ -171,6 +181,7 @@ impl Gathering {
     /// Adds a name to its last file or symlink.
     fn add_name(&mut self, name: Path) -> Result<(), PieceError>
         ensures ok { OnOk result (with_piece self.old (piece_kinds.Name name) ≡ Ok self.new) }
+        ensures first { (e : PieceFault) → with_piece self.old (piece_kinds.Name name) ≡ Err e → IsErrOf result e }
         ensures refused { IfErr result (λ e. (with_piece self.old (piece_kinds.Name name) ≡ Err e) ⊎ (e ≡ piece_errors.OutOfMemory no_memory)) }
         ensures err { OnErr result (self.new ≡ self.old) }
     {
@@ -190,12 +201,13 @@ impl Gathering {
     /// layer is as it was. Takes memory for the piece. The cost is constant, but for a copy of bytes.
     pub fn put(&mut self, piece: Piece) -> Result<(), PieceError>
         ensures ok { OnOk result (with_piece self.old piece ≡ Ok self.new) }
+        ensures first { (e : PieceFault) → with_piece self.old piece ≡ Err e → IsErrOf result e }
         ensures refused { IfErr result (λ e. (with_piece self.old piece ≡ Err e) ⊎ (e ≡ piece_errors.OutOfMemory no_memory)) }
         ensures err { OnErr result (self.new ≡ self.old) }
     {
         match piece {
-            Piece::Dir(dir) => self.dirs.push(dir)?,
-            Piece::Whiteout(path) => self.whiteouts.push(path)?,
+            Piece::Dir(dir) => self.parts.dirs.push(dir)?,
+            Piece::Whiteout(path) => self.parts.whiteouts.push(path)?,
             Piece::File { number, kind } => {
                 self.close_file()?;
                 self.file = Some(OpenFile::begin(self.alloc, number, kind));
@@ -217,29 +229,9 @@ impl Gathering {
         self.close_file()?;
         let Gathering {
             alloc,
-            head,
-            dirs,
-            whiteouts,
-            files,
+            parts,
             file: _,
         } = self;
-        let Head {
-            meta,
-            opaque,
-            next,
-            most,
-        } = head;
-        restore(
-            alloc,
-            Saved {
-                meta,
-                opaque,
-                dirs,
-                whiteouts,
-                files,
-                next,
-                most,
-            },
-        )
+        restore(alloc, parts)
     }
 }
