@@ -9,17 +9,18 @@ use Rattle.snap_usage.specs.declared.usage.Usage.{Usage}
 use Rattle.snap_usage.specs.Counted.{Covers, no_usage}
 use Rattle.snap_ledger.specs.States.{ChargeState, plus, minus}
 use Rattle.snap_lease.specs.Lease.{Lease, empty_lease}
-use Rattle.snap_lease.specs.Leases.{with_name_added, with_name_dropped, without_lease}
+use Rattle.snap_lease.specs.Leases.{has_lease, with_name_added, with_name_dropped, without_lease}
 use Rattle.snap_lease.specs.declared.error.LeaseError.{LeaseError}
 use Rattle.snap_lease.specs.declared.error.LeaseError.TheVariants as errors
 use Rattle.snap_lease.specs.declared.error.LeaseNameError.{LeaseNameError}
-use Rattle.snap_record.specs.Labels.{Bytes, Label}
+use Rattle.snap_record.specs.Labels.{Bytes, Label, are_labels}
 use Rattle.snap_record.specs.Records.{usage_of}
 use Rattle.snap_record.specs.declared.record.Content.TheVariants.{View}
 use Rattle.snap_record.specs.declared.record.Record.{Record}
 use Rattle.snap_call.specs.declared.config.Namespace.{Namespace}
 use Rattle.snap_call.specs.declared.state.State.{State}
-use Rattle.snap_call.specs.Good.{Good}
+use Rattle.snap_call.specs.Forms.{is_key}
+use Rattle.snap_call.specs.Good.{Good, IsFormed}
 use Rattle.snap_call.specs.Records.{charge_of, charge_at, committed_at, has_slot, is_active, is_named, open_count, record_at, with_record, without_key, relabelled}
 use Rattle.snap_call.specs.State.{place_of, shown_layers, with_namespace, without_namespace}
 use Rattle.snap_call.specs.Step.{added, leasing, spacing, removed_at, relabelled_at}
@@ -57,8 +58,9 @@ module _ (r : Record) (layers : List Tree) (is : r.content ≡ View layers) wher
 pub accounts_viewed : (s : State) (us : List Usage) (cs : List ChargeState) (n : ℕ) (r : Record) → AreAccounts s us cs n → IsNewView s r → AreAccounts (added s r) us cs n
 accounts_viewed s us cs n r accounts new =
     let layers : List Tree = shown_layers r.namespace r.parent s.records in
+    let formed : IsFormed (s.entries + 1) r = record { texts = new.site.texts; above = omega (arith, accounts.good.fewer, new.id); known = new.known } in
     accounts_kept s (added s r) us cs n accounts
-    (good_view_added s r accounts.good new.view new.id new.site.taken new.site.new new.site.base new.site.deep)
+    (good_view_added s r accounts.good new.view new.id formed new.site.taken new.site.new new.site.base new.site.deep)
     refl
     (λ k. charge_of-view r layers new.view k s.records)
     (λ k. charge_at-view r layers new.view k s.records)
@@ -66,12 +68,12 @@ accounts_viewed s us cs n r accounts new =
 
 -- ---- other labels
 
-pub accounts_relabelled : (s : State) (us : List Usage) (cs : List ChargeState) (n place : ℕ) (key : Bytes) (labels : List Label) → AreAccounts s us cs n → AreAccounts (relabelled_at s place key labels) us cs n
-accounts_relabelled s us cs n place key labels accounts =
+pub accounts_relabelled : (s : State) (us : List Usage) (cs : List ChargeState) (n place : ℕ) (key : Bytes) (labels : List Label) → AreAccounts s us cs n → are_labels labels ≡ true → AreAccounts (relabelled_at s place key labels) us cs n
+accounts_relabelled s us cs n place key labels accounts formed =
     let rs = s.records in
     let ts = relabelled place key labels (s.entries + 1) rs in
     let alike = bare-relabelled place key labels (s.entries + 1) rs in
-    accounts_kept s (relabelled_at s place key labels) us cs n accounts (good_relabelled s place key labels accounts.good) refl
+    accounts_kept s (relabelled_at s place key labels) us cs n accounts (good_relabelled s place key labels accounts.good formed) refl
     (λ k. alike-charge_of rs ts alike k)
     (λ k. alike-charge_at rs ts alike k)
     (alike-open_count rs ts alike)
@@ -141,7 +143,7 @@ total_last (v ∷ us) u (suc j) is = total_last us u j (omega (arith, is))
 
 pub accounts_spaced : (s : State) (us vs : List Usage) (cs : List ChargeState) (n : ℕ) (m : Namespace) → AreAccounts s us cs n → IsNewSpace s m → vs ≡ take (length (with_namespace m s.namespaces)) (us ++ no_usage ∷ []) → AreAccounts (spacing s (with_namespace m s.namespaces)) vs cs n
 accounts_spaced s us vs cs n m accounts new is_vs = record {
-  good = good_namespace s m accounts.good new.0 new.1;
+  good = good_namespace s m accounts.good new.0 new.1 new.2;
   count = ap length is_vs ∙ length-take-le count (us ++ no_usage ∷ []) (let all = length-append us (no_usage ∷ []) in let same = accounts.count in let most = lengths.1 in omega (arith, all, same, most));
   totals_are = λ place lt. ap (λ (l : List Usage). slice_get l place) is_vs ∙ totals_cut (us ++ no_usage ∷ []) count place lt ∙ total_at place lt;
   charges_are = accounts.charges_are;
@@ -170,7 +172,7 @@ accounts_unspaced s us cs n place accounts is =
 
 pub accounts_limited : (s : State) (us : List Usage) (cs : List ChargeState) (n place : ℕ) (m : Namespace) → AreAccounts s us cs n → IsLimitFor s place m → AreAccounts (limited_at s place m.limit) us cs n
 accounts_limited s us cs n place m accounts is =
-    accounts_kept s (limited_at s place m.limit) us cs n accounts (good_limited m.limit s place accounts.good is.inside is.formed is.covers)
+    accounts_kept s (limited_at s place m.limit) us cs n accounts (good_limited m.limit s place accounts.good is.taken is.formed is.covers)
     (length-limited m.limit place s.namespaces) (λ k. refl) (λ k. refl) refl
 
 -- ---- other leases
@@ -178,12 +180,12 @@ accounts_limited s us cs n place m accounts is =
 leases_kept : (s : State) (us : List Usage) (cs : List ChargeState) (n : ℕ) (ls : List Lease) → AreAccounts s us cs n → Good (leasing s ls) → AreAccounts (leasing s ls) us cs n
 leases_kept s us cs n ls accounts good = accounts_kept s (leasing s ls) us cs n accounts good refl (λ k. refl) (λ k. refl) refl
 
-pub accounts_created : (s : State) (us : List Usage) (cs : List ChargeState) (n : ℕ) (namespace lease : Bytes) (until : Option ℕ) → AreAccounts s us cs n → IsSpace s namespace → AreAccounts (leasing s (s.leases ++ empty_lease namespace lease until ∷ [])) us cs n
-accounts_created s us cs n namespace lease until accounts space = by (place_of namespace s.namespaces) refl space
+pub accounts_created : (s : State) (us : List Usage) (cs : List ChargeState) (n : ℕ) (namespace lease : Bytes) (until : Option ℕ) → AreAccounts s us cs n → IsSpace s namespace → is_key lease ≡ true → has_lease s.leases namespace lease ≡ false → AreAccounts (leasing s (s.leases ++ empty_lease namespace lease until ∷ [])) us cs n
+accounts_created s us cs n namespace lease until accounts space formed new = by (place_of namespace s.namespaces) refl space
   where
     by : (o : Option ℕ) → place_of namespace s.namespaces ≡ o → IsSome o → AreAccounts (leasing s (s.leases ++ empty_lease namespace lease until ∷ [])) us cs n
     by None e is = absurd (true≢false (sym is))
-    by (Some place) e is = leases_kept s us cs n _ accounts (good_created s namespace lease until place accounts.good e)
+    by (Some place) e is = leases_kept s us cs n _ accounts (good_created s namespace lease until place accounts.good e formed new)
 
 pub accounts_named : (s : State) (us : List Usage) (cs : List ChargeState) (n : ℕ) (namespace lease name : Bytes) → AreAccounts s us cs n → IsLeaseName s namespace lease name → AreAccounts (leasing s (with_name_added s.leases namespace lease name)) us cs n
 accounts_named s us cs n namespace lease name accounts is = by (place_of namespace s.namespaces) refl is.committed

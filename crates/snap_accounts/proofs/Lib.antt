@@ -6,3 +6,4 @@ pub mod Changes
 pub mod Found
 pub mod Sweeps
 pub mod Saving
+pub mod SavingLeases

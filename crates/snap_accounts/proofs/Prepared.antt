@@ -1,16 +1,17 @@
 -- What is kept beside the state, after a new snapshot.
-use Rattle.std.specs.Prelude.{if◌then◌else◌, Ok, Err}
+use Rattle.std.specs.Prelude.{if◌then◌else◌, ◌&&◌, Ok, Err}
 use Rattle.std.proofs.Common.{Bool, ◌≡◌, ℕ, ◌+◌, ◌<◌, ◌≤◌, List, set, true, false, None, refl, sym, ap, ◌∙◌, subst, arith}
 use Rattle.std.proofs.lemmas.Bool.{leb-true}
 use Rattle.snap_path.specs.Limits.{most_number}
 use Rattle.snap_usage.specs.declared.usage.Usage.{Usage}
 use Rattle.snap_usage.specs.Counted.{no_usage, covers}
 use Rattle.snap_ledger.specs.States.{ChargeState, plus}
-use Rattle.snap_record.specs.Labels.{Bytes, Label}
+use Rattle.snap_record.specs.Labels.{Bytes, Label, are_labels}
 use Rattle.snap_record.specs.declared.record.Record.{Record}
 use Rattle.snap_record.specs.declared.record.Content.TheVariants.{Active}
 use Rattle.snap_call.specs.declared.refusal.Refusal.TheVariants.{TooDeep}
 use Rattle.snap_call.specs.declared.state.State.{State}
+use Rattle.snap_call.specs.Forms.{is_key, is_parent}
 use Rattle.snap_call.specs.Good.{Good}
 use Rattle.snap_call.specs.Records.{charge_of, active_at, has_key, is_slot, open_count, with_record, max_slots}
 use Rattle.snap_call.specs.State.{limit_at, is_present, is_base, is_taken_at, is_too_deep}
@@ -19,7 +20,7 @@ use Rattle.snap_call.proofs.Counts.{open_count-with_active, open_count-most}
 use Rattle.snap_call.proofs.Keeping.{covers-Covers, good_prepared}
 use Rattle.snap_call.proofs.Leasing.{place_of-taken, taken-below}
 use Rattle.snap_call.proofs.Lowest.{lowest_free-Some}
-use Rattle.snap_call.proofs.Places.{IsPlace, place_for-Ok, slot_for-Ok}
+use Rattle.snap_call.proofs.Places.{place_for-Ok, place_for-texts, slot_for-Ok}
 use Rattle.snap_call.proofs.Slots.{Active-is_slot, charge_at-None}
 use Rattle.snap_accounts.specs.Accounts.{AreAccounts}
 use Rattle.snap_accounts.specs.Slots.{charge_in}
@@ -45,11 +46,11 @@ open-most s us cs n accounts = let most = open_count-most s.slots s.records acco
 -- a new snapshot is charged, and its slot is taken
 pub accounts_prepared : (s : State) (us vs : List Usage) (cs ds : List ChargeState) (n place slot : ℕ) (key parent : Bytes) (labels : List Label) (rs : List Record)
     → AreAccounts s us cs n → is_taken_at place s.namespaces ≡ true → has_key place key s.records ≡ false → is_base place parent s.records ≡ true → is_too_deep s.ancestors place parent s.records ≡ false
-    → slot < s.slots → slot < max_slots → active_at slot s.records ≡ None → covers (limit_at place s.namespaces) (plus (charge_of place s.records) one) ≡ true
+    → (is_key key && is_parent parent && are_labels labels) ≡ true → slot < s.slots → slot < max_slots → active_at slot s.records ≡ None → covers (limit_at place s.namespaces) (plus (charge_of place s.records) one) ≡ true
     → rs ≡ with_record (new_record s place key parent labels (Active slot one)) s.records → vs ≡ set us place (plus (charge_of place s.records) one) → ds ≡ set cs slot (record { slot = slot; id = s.next_id; usage = one; issued = true })
     → AreAccounts (record s { records = rs; next_id = s.next_id + 1; entries = s.entries + 1 }) vs ds (n + 1)
-accounts_prepared s us vs cs ds n place slot key parent labels rs accounts taken new base deep low few none fits is is_vs is_ds =
-    let good = good_prepared s place key parent labels slot accounts.good taken new base deep low none (covers-Covers (limit_at place s.namespaces) (plus (charge_of place s.records) one) fits) in
+accounts_prepared s us vs cs ds n place slot key parent labels rs accounts taken new base deep texts low few none fits is is_vs is_ds =
+    let good = good_prepared s place key parent labels slot accounts.good taken new base deep texts low none (covers-Covers (limit_at place s.namespaces) (plus (charge_of place s.records) one) fits) in
     accounts_added s (record s { records = rs; next_id = s.next_id + 1; entries = s.entries + 1 }) us vs cs ds n (n + 1) slot (new_record s place key parent labels (Active slot one)) accounts
     (subst (λ (l : List Record). Good (record s { records = l; next_id = s.next_id + 1; entries = s.entries + 1 })) (sym is) good)
     none (new_active-is_slot s place key parent labels slot) few (taken-below place s.namespaces taken) refl is
@@ -75,13 +76,14 @@ module _ (most : ℕ) (rs : List Record) (key parent : Bytes) (place : ℕ) (pre
 -- ---- a place and a slot
 
 -- a place that was found, where an id is left
-pub site : (s : State) (namespace key parent : Bytes) (place : ℕ) → IsPlace s namespace key parent place → s.next_id ≤ most_number → IsSite s place key parent
-site s namespace key parent place is few = record { taken = place_of-taken namespace s.namespaces place is.named; new = is.free; base = is.base; deep = is.deep; numbers = few }
+pub site : (s : State) (namespace key parent : Bytes) (labels : List Label) (place : ℕ) → place_for s namespace key parent labels ≡ Ok place → s.next_id ≤ most_number → IsSite s place key parent labels
+site s namespace key parent labels place e few =
+    let is = place_for-Ok s namespace key parent labels place e in
+    record { texts = place_for-texts s namespace key parent labels place e; taken = place_of-taken namespace s.namespaces place is.named; new = is.free; base = is.base; deep = is.deep; numbers = few }
 
 -- where both were found, a snapshot can be added there
-pub vacant : (s : State) (namespace key parent : Bytes) (labels : List Label) (place slot : ℕ) → slot < max_slots → place_for s namespace key parent labels ≡ Ok place → slot_for s place ≡ Ok slot → IsVacant s (record { place = place; slot = slot }) key parent
+pub vacant : (s : State) (namespace key parent : Bytes) (labels : List Label) (place slot : ℕ) → slot < max_slots → place_for s namespace key parent labels ≡ Ok place → slot_for s place ≡ Ok slot → IsVacant s (record { place = place; slot = slot }) key parent labels
 vacant s namespace key parent labels place slot few e f =
-    let is = place_for-Ok s namespace key parent labels place e in
     let found = slot_for-Ok s place slot f in
     let free = lowest_free-Some s.slots s.records slot found.lowest in
-    record { site = site s namespace key parent place is (leb-true s.next_id most_number found.few); low = free.0; few = few; free = free.1; fits = found.room }
+    record { site = site s namespace key parent labels place e (leb-true s.next_id most_number found.few); low = free.0; few = few; free = free.1; fits = found.room }

@@ -1,7 +1,7 @@
 // The state, and what each namespace is charged.
 ghost use Rattle.std.specs.Prelude.{◌≡◌, ◌<◌, ◌+◌, ◌^◌, ◌++◌, ◌∷◌, [], IfOk, OnErr, OnOk, length, replicate, slice_set, take, true};
 ghost use Rattle.snap_usage.specs.Counted.{Covers, no_usage};
-ghost use Rattle.snap_call.specs.Forms.{is_config, is_limit};
+ghost use Rattle.snap_call.specs.Forms.{is_limit, is_saved_config};
 ghost use Rattle.snap_call.specs.Good.{Good};
 ghost use Rattle.snap_call.specs.Records.{charge_of, open_count, max_sessions};
 ghost use Rattle.snap_call.specs.State.{limit_at, opening};
@@ -37,16 +37,17 @@ impl<N: StoreName> Model for Accounts<N> {
 }
 
 impl<N: StoreName> Accounts<N> {
-    /// The state of a new store: all namespaces of the configuration are charged 0/0, and all slots are
-    /// free. Takes memory for the totals, and for a charge of each of the 4096 slots that a store can have, however
-    /// many this one has. The cost grows with the number of namespaces.
+    /// The state of a new store, or of a saved one before anything is put back: all namespaces of the
+    /// configuration are charged 0/0, and all slots are free. Takes memory for the totals, and for a charge of each
+    /// of the 4096 slots that a store can have, however many this one has. The cost grows with the number of
+    /// namespaces.
     pub fn opening(
         alloc: Global,
         table: NewTable,
         config: Config,
     ) -> Result<Accounts<N>, AllocError>
         requires table { table ≡ N.table }
-        requires config { is_config config ≡ true }
+        requires config { is_saved_config config ≡ true }
         ensures { IfOk result (λ accounts. accounts ≡ opening config) }
     {
         let totals = Totals::zero(alloc, config.namespaces.len())?;

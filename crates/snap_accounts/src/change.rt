@@ -3,6 +3,7 @@ ghost use Rattle.std.specs.Prelude.{◌≡◌, ◌<◌, ◌^◌, ◌+◌, IfOk, 
 ghost use Rattle.snap_layer.specs.Edits.{root_only};
 ghost use Rattle.std.specs.Option.{option_map_or};
 ghost use Rattle.snap_usage.specs.Counted.{no_usage};
+ghost use Rattle.snap_record.specs.Labels.{are_labels};
 ghost use Rattle.snap_record.specs.Records.{info_of, usage_of};
 ghost use Rattle.snap_call.specs.Records.{is_active, open_count, with_labels};
 ghost use Rattle.snap_call.specs.State.{or_empty};
@@ -179,7 +180,7 @@ impl<N: StoreName> Accounts<N> {
         labels: &Labels,
     ) -> Result<usize, Refusal>
         ensures ok { IfOk result (λ place. prepare_view self.now namespace.now key.now parent.now labels.now ≡ viewed self.now place key.now parent.now labels.now) }
-        ensures site { IfOk result (λ place. IsSite self.now place key.now parent.now) }
+        ensures site { IfOk result (λ place. IsSite self.now place key.now parent.now labels.now) }
         ensures recorded { IfErr result IsRecorded }
         ensures refused { IfErr result (λ why. prepare_view self.now namespace.now key.now parent.now labels.now ≡ refused self.now why) }
     {
@@ -199,7 +200,7 @@ impl<N: StoreName> Accounts<N> {
         parent: &str,
         labels: &Labels,
     ) -> Result<(Reply, Change), AllocError>
-        requires site { IsSite self.now place key.now parent.now }
+        requires site { IsSite self.now place key.now parent.now labels.now }
         requires entries { self.now.entries < 2 ^ 63 }
         ensures reply { IfOk result (λ p. viewed self.now place key.now parent.now labels.now ≡ (changed_state self.now p.1, p.0)) }
         ensures recorded { IfOk result (λ p. IsInEntry p.0) }
@@ -290,6 +291,7 @@ impl<N: StoreName> Accounts<N> {
         given: &Labels,
         paths: &[Text],
     ) -> Result<(Reply, Change), AllocError>
+        requires own { are_labels snapshot.now.labels ≡ true }
         requires entries { self.now.entries < 2 ^ 63 }
         ensures reply { IfOk result (λ p. update_record self.now key.now given.now paths.now place snapshot.now ≡ (changed_state self.now p.1, p.0)) }
         ensures recorded { IfOk result (λ p. IsInEntry p.0) }
@@ -470,6 +472,7 @@ impl<N: StoreName> Accounts<N> {
 
     // The snapshot of the key gets these labels.
     fn relabel(&mut self, place: usize, key: &str, labels: Labels)
+        requires formed { are_labels labels ≡ true }
         requires entries { self.old.entries < 2 ^ 63 }
         ensures done { self.new ≡ relabelled_at self.old place key.now labels }
         ensures open { open_count self.new.records ≡ open_count self.old.records }

@@ -2,6 +2,7 @@
 ghost use Rattle.std.specs.Prelude.{◌≡◌, ◌<◌, ◌^◌, ◌+◌, ◌++◌, ◌∷◌, [], IfOk, IfErr, IsOk, OnOk, OnErr, Option, ℕ, true, false};
 ghost use Rattle.snap_lease.specs.Lease.{empty_lease};
 ghost use Rattle.snap_lease.specs.Leases.{has_lease, lease_names, with_name_added, with_name_dropped, without_lease};
+ghost use Rattle.snap_call.specs.Forms.{is_key};
 ghost use Rattle.snap_call.specs.Records.{open_count};
 ghost use Rattle.snap_call.specs.Step.{leasing, refused, spacing};
 ghost use Rattle.snap_call.specs.Steps.{lease_add, lease_create, lease_drop, lease_release, set_limit};
@@ -64,6 +65,7 @@ impl<N: StoreName> Accounts<N> {
         ensures ok { OnOk result ((until : Option ℕ) → lease_create self.now namespace.now lease.now until ≡ (leasing self.now (self.now.leases ++ empty_lease namespace.now lease.now until ∷ []), Done)) }
         ensures space { OnOk result (IsSpace self.now namespace.now) }
         ensures new { OnOk result (has_lease self.now.leases namespace.now lease.now ≡ false) }
+        ensures formed { OnOk result (is_key lease.now ≡ true) }
         ensures recorded { IfErr result IsRecorded }
         ensures refused { IfErr result (λ why. (until : Option ℕ) → lease_create self.now namespace.now lease.now until ≡ refused self.now why) }
     {
@@ -269,6 +271,7 @@ impl<N: StoreName> Accounts<N> {
     ) -> Result<(), AllocError>
         requires space { IsSpace self.old namespace.now }
         requires new { has_lease self.old.leases namespace.now lease.now ≡ false }
+        requires formed { is_key lease.now ≡ true }
         requires entries { self.old.entries < 2 ^ 63 }
         ensures done { OnOk result (self.new ≡ leasing self.old (self.old.leases ++ empty_lease namespace.now lease.now until ∷ [])) }
         ensures open { OnOk result (open_count self.new.records ≡ open_count self.old.records) }

@@ -15,6 +15,7 @@ mod info;
 mod lease;
 mod prepare;
 mod saved;
+mod saved_lease;
 mod slots;
 mod spaces;
 mod sweep;

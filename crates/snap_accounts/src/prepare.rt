@@ -126,7 +126,7 @@ impl<N: StoreName> Accounts<N> {
     ) -> Result<Vacancy, Refusal>
         ensures ok { IfOk result (λ v. prepare self.now namespace.now key.now parent.now labels.now ≡ prepared self.now v.place key.now parent.now labels.now v.slot) }
         ensures named { IfOk result (λ v. place_of namespace.now self.now.namespaces ≡ Some v.place) }
-        ensures vacant { IfOk result (λ v. IsVacant self.now v key.now parent.now) }
+        ensures vacant { IfOk result (λ v. IsVacant self.now v key.now parent.now labels.now) }
         ensures recorded { IfErr result IsRecorded }
         ensures refused { IfErr result (λ why. prepare self.now namespace.now key.now parent.now labels.now ≡ refused self.now why) }
     {
@@ -164,7 +164,7 @@ impl<N: StoreName> Accounts<N> {
 
     // The record is one more, in a slot that is free.
     fn insert(&mut self, vacancy: Vacancy, added: Record) -> Result<Share<N>, AllocError>
-        requires vacant { IsVacant self.old vacancy added.key added.parent }
+        requires vacant { IsVacant self.old vacancy added.key added.parent added.labels }
         requires entries { self.old.entries < 2 ^ 63 }
         requires added { added ≡ new_record self.old vacancy.place added.key added.parent added.labels (Active vacancy.slot one) }
         ensures added { OnOk result (self.new ≡ (prepared self.old vacancy.place added.key added.parent added.labels vacancy.slot).0) }
@@ -198,7 +198,7 @@ impl<N: StoreName> Accounts<N> {
         parent: &str,
         labels: &Labels,
     ) -> Result<Share<N>, AllocError>
-        requires vacant { IsVacant self.old vacancy key.now parent.now }
+        requires vacant { IsVacant self.old vacancy key.now parent.now labels.now }
         requires entries { self.old.entries < 2 ^ 63 }
         ensures added { OnOk result (self.new ≡ (prepared self.old vacancy.place key.now parent.now labels.now vacancy.slot).0) }
         ensures share { IfOk result (λ s. s ≡ record { slot = vacancy.slot; id = self.old.next_id; usage = one }) }

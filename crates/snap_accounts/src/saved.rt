@@ -30,15 +30,20 @@ fn charge_for(content: &SavedContent) -> Usage
 }
 
 impl<N: StoreName> Accounts<N> {
-    // The id comes after all others, and no entry that is to come made or changed the snapshot.
+    // The id comes after all others, and of the entries so far one made the snapshot, and this or a later one last
+    // changed it.
     fn check_numbers(&self, saved: &Saved) -> Result<(), Refusal>
         ensures answer { result ≡ numbers_answer self.now saved.now }
+        ensures above { OnOk result (1 ≤ saved.now.id) }
         ensures recorded { IfErr result IsRecorded }
     {
         if (saved.id as u64) < self.state.next_id {
             return Err(Refusal::NumbersSpent);
         }
-        if saved.created > self.state.entries || saved.updated > self.state.entries {
+        if saved.created == 0
+            || saved.created > saved.updated
+            || saved.updated > self.state.entries
+        {
             return Err(Refusal::NumbersSpent);
         }
         Ok(())
@@ -76,9 +81,9 @@ impl<N: StoreName> Accounts<N> {
     /// The place of the namespace that a saved snapshot can be put back into.
     ///
     /// The refusals, in this order: those of a new snapshot of its key on its parent, as [`Accounts::vacancy`]
-    /// has them, up to `TooDeep`; `NumbersSpent` where its id is not above all that were given, or an entry
-    /// that is to come made or changed it; `TooManyActives` where its slot is none of the store's, or is
-    /// open; `BadArgument` where its slot is charged less than 1/1; `OverLimit` with what is free, where its
+    /// has them, up to `TooDeep`; `NumbersSpent` where its id is not above all that were given, where an
+    /// entry that is to come made or changed it, and where none made it or an earlier one changed it;
+    /// `TooManyActives` where its slot is none of the store's, or is open; `BadArgument` where its slot is charged less than 1/1; `OverLimit` with what is free, where its
     /// charge does not fit. Takes no memory. The cost grows with the logarithm of the number of records, once for
     /// each ancestor, and with the number of labels.
     pub fn check_saved(&self, saved: &Saved) -> Result<usize, Refusal>
@@ -223,7 +228,8 @@ impl<N: StoreName> Accounts<N> {
     /// The next snapshot gets this id, and the next entry the number after this one: those that a saved store
     /// had. Takes no memory. The cost is constant.
     pub fn number_from(&mut self, next_id: u64, entries: u64)
-        requires { self.old.next_id ≤ next_id }
+        requires next { self.old.next_id ≤ next_id }
+        requires entries { self.old.entries ≤ entries }
         ensures { self.new ≡ record self.old { next_id = next_id; entries = entries } }
     {
         self.state.next_id = next_id;

@@ -4,3 +4,4 @@ pub mod Commits
 pub mod Viewing
 mod Asking
 pub mod Promises
+mod Saving

@@ -9,3 +9,4 @@ pub mod Held
 pub mod Files
 pub mod Viewed
 pub mod Wanted
+pub mod Saved

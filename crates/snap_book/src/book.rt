@@ -178,6 +178,13 @@ impl<N: StoreName> Book<N> {
         }
     }
 
+    /// The most entries of the round's journal. Takes no memory. The cost is constant.
+    pub fn most_entries(&self) -> u64
+        ensures { result ≡ self.now.limit }
+    {
+        self.journal.limit()
+    }
+
     /// How many snapshots are open. Takes no memory. The cost is constant.
     pub fn open_slots(&self) -> u64
         ensures { result ≡ open_count self.now.state.records }

@@ -100,6 +100,13 @@ impl Model for Journal {
 }
 
 impl Journal {
+    // The most entries.
+    pub(crate) fn limit(&self) -> u64
+        ensures { result ≡ self.now.limit }
+    {
+        self.limit
+    }
+
     // Without entries.
     pub(crate) fn new(alloc: Global, state: &State, limit: u64) -> Result<Journal, AllocError>
         requires { limit ≤ max_journal }

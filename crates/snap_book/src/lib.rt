@@ -28,6 +28,7 @@ mod plain;
 mod prepare;
 mod questions;
 mod round;
+mod saved;
 mod view;
 mod viewed;
 

@@ -99,7 +99,7 @@ impl<N: StoreName> Active<N> {
     ) -> Result<Active<N>, AllocError>
         requires entries { accounts.old.entries < 2 ^ 63 }
         requires inodes { is_layer_limit layer_inodes ≡ true }
-        requires vacant { IsVacant accounts.old vacancy key.now parent.now }
+        requires vacant { IsVacant accounts.old vacancy key.now parent.now labels.now }
         ensures added { OnOk result (accounts.new ≡ (prepared accounts.old vacancy.place key.now parent.now labels.now vacancy.slot).0) }
         ensures active { IfOk result (λ a. a ≡ record { namespace = vacancy.place; key = key.now; lowers = lowers; layer = fresh layer_inodes lowers; share = record { slot = vacancy.slot; id = accounts.old.next_id; usage = one } }) }
         ensures open { OnOk result (open_count accounts.new.records ≡ open_count accounts.old.records + 1) }

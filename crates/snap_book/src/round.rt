@@ -1,8 +1,11 @@
 // The next round of a book.
-ghost use Rattle.std.specs.Prelude.{◌≡◌, ◌↔◌, ◌≤◌, ◌+◌, ◌^◌, [], None, IfErr, IfOk, IsErrOf, OnOk, OnErr, Ok, Err};
+ghost use Rattle.std.specs.Prelude.{◌≡◌, ◌⊎◌, ◌≤◌, ◌+◌, ◌^◌, [], None, IfErr, IfOk, IsErrOf, OnOk, OnErr, Ok, Err};
+ghost use Rattle.snap_call.specs.Good.{Good};
 ghost use Rattle.snap_call.specs.Records.{open_count, max_journal};
 ghost use Rattle.snap_call.specs.declared.refusal.Refusal.{Refusal};
-ghost use Rattle.snap_accounts.specs.Entries.{IsUnrecorded};
+ghost use Rattle.snap_path.specs.Memory.{no_memory};
+ghost use Rattle.snap_call.specs.declared.refusal.Refusal.TheVariants.{OutOfMemory};
+ghost use Rattle.snap_book.specs.Book.{IsRefusedWith};
 ghost use Rattle.snap_book.specs.Round.{next_round, roll_answer, round_answer};
 
 use crate::book::Book;
@@ -29,33 +32,60 @@ fn test_round(state: &State, journal: u64) -> Result<(), Refusal>
     Ok(())
 }
 
+// The journal of a round that begins at the state of the accounts, with an entry for the end of each open snapshot and
+// one more.
+fn journal_at<N: StoreName>(
+    alloc: Global,
+    accounts: &Accounts<N>,
+    journal: u64,
+) -> Result<Journal, Refusal>
+    ensures ok { IfOk result (λ j. j ≡ record { entries = []; opening = accounts.now; limit = journal; copy = None; room = j.room }) }
+    ensures room { IfOk result (λ j. open_count accounts.now.records + 1 ≤ j.room) }
+    ensures good { OnOk result (Good accounts.now) }
+    ensures numbers { OnOk result (accounts.now.entries + journal ≤ 2 ^ 62) }
+    ensures owed { OnOk result (open_count accounts.now.records + 1 ≤ journal) }
+    ensures answer { OnOk result (roll_answer accounts.now journal ≡ Ok tt) }
+    ensures first { (why : Refusal) → roll_answer accounts.now journal ≡ Err why → IsErrOf result why }
+    ensures refused { IfErr result (λ why. (roll_answer accounts.now journal ≡ Err why) ⊎ (why ≡ OutOfMemory no_memory)) }
+{
+    test_round(accounts.state(), journal)?;
+    if journal <= accounts.open_slots() {
+        return Err(Refusal::JournalFull);
+    }
+    let mut entries = Journal::new(alloc, accounts.state(), journal)?;
+    entries.admit(accounts.open_slots(), 1)?;
+    Ok(entries)
+}
+
 impl<N: StoreName> Book<N> {
     /// A book whose round begins at the state of these accounts: its journal is empty and has at most `journal`
     /// entries, and sessions are counted from 0. Snapshots may be open, as in [`Book::roll`], in their writers'
     /// hands.
     ///
-    /// The refusals of [`Book::roll`], and then `OutOfMemory`; the accounts are lost then. Takes memory for a place
-    /// for each slot, and for an entry for the end of each open snapshot and one more. The cost grows with the
-    /// numbers of slots and of records.
-    pub fn begin(alloc: Global, accounts: Accounts<N>, journal: u64) -> Result<Book<N>, Refusal>
+    /// The refusals of [`Book::roll`], and then `OutOfMemory`; the accounts come back, without sessions. Takes memory
+    /// for a place for each slot, and for an entry for the end of each open snapshot and one more. The cost grows with
+    /// the numbers of slots and of records.
+    pub fn begin(
+        alloc: Global,
+        accounts: Accounts<N>,
+        journal: u64,
+    ) -> Result<Book<N>, (Refusal, Accounts<N>)>
         ensures began { IfOk result (λ b. b ≡ record { state = next_round accounts; journal = []; opening = next_round accounts; limit = journal; copy = None }) }
         ensures answer { OnOk result (roll_answer accounts journal ≡ Ok tt) }
-        ensures refused { (why : Refusal) → roll_answer accounts journal ≡ Err why → IsErrOf result why }
-        ensures err { roll_answer accounts journal ≡ Ok tt → IfErr result IsUnrecorded }
+        ensures first { (why : Refusal) → roll_answer accounts journal ≡ Err why → IsRefusedWith result why }
+        ensures refused { IfErr result (λ back. (roll_answer accounts journal ≡ Err back.0) ⊎ (back.0 ≡ OutOfMemory no_memory)) }
+        ensures back { IfErr result (λ back. back.1 ≡ next_round accounts) }
     {
-        test_round(accounts.state(), journal)?;
-        if journal <= accounts.open_slots() {
-            return Err(Refusal::JournalFull);
-        }
         let mut accounts = accounts;
         accounts.end_sessions();
-        let mut entries = Journal::new(alloc, accounts.state(), journal)?;
-        entries.admit(accounts.open_slots(), 1)?;
-        Ok(Book {
-            alloc,
-            accounts,
-            journal: entries,
-        })
+        match journal_at(alloc, &accounts, journal) {
+            Ok(journal) => Ok(Book {
+                alloc,
+                accounts,
+                journal,
+            }),
+            Err(why) => Err((why, accounts)),
+        }
     }
 
     /// Begins the next round, whose journal has at most `journal` entries: it is empty, and sessions are

@@ -10,9 +10,9 @@ use Rattle.snap_usage.specs.declared.usage.Usage.{Usage}
 use Rattle.snap_usage.specs.Counted.{count_of, Covers, no_usage, covers}
 use Rattle.snap_ledger.specs.States.{plus, minus}
 use Rattle.snap_lease.specs.Lease.{Lease, NamesOnce, does_name, is_of}
-use Rattle.snap_lease.specs.Leases.{guards, is_guarded}
-use Rattle.snap_lease.proofs.ListLemmas.{NamesOnce-with_name_added}
-use Rattle.snap_record.specs.Labels.{Bytes, Label}
+use Rattle.snap_lease.specs.Leases.{AreDistinct, guards, is_guarded}
+use Rattle.snap_lease.proofs.ListLemmas.{AreDistinct-with_name_added, NamesOnce-with_name_added}
+use Rattle.snap_record.specs.Labels.{Bytes, Label, are_labels}
 use Rattle.snap_record.specs.Records.{usage_of}
 use Rattle.snap_record.specs.declared.record.Content.{Content}
 use Rattle.snap_record.specs.declared.record.Content.TheVariants.{View, Active, Committed}
@@ -21,9 +21,11 @@ use Rattle.snap_call.specs.declared.config.Namespace.{Namespace}
 use Rattle.snap_call.specs.declared.state.State.{State}
 use Rattle.snap_call.specs.Records.{has_key, has_children, has_slot, is_named, is_slot, record_at, committed_at, active_at, charge_of, with_record, without_slot, without_key, recharged, relabelled, committed_as, HasLowSlot, AreApart}
 use Rattle.snap_call.specs.State.{place_of, name_at, limit_at, is_taken_at, is_base, is_too_deep, ancestors, layers_of, most_ancestors, or_empty, shown_layers}
-use Rattle.snap_call.specs.Good.{HasOlderParent, IsShown, Good}
-use Rattle.snap_call.specs.Step.{counted, one, prepared, committed, leases_after, added, viewed, removed_at, new_record}
-use Rattle.snap_call.proofs.Leasing.{name_at-place, place_of-name_at, place_of-taken, taken-below, guarding-with_name}
+use Rattle.snap_call.specs.Forms.{is_key, is_parent}
+use Rattle.snap_call.specs.Good.{HasOlderParent, IsFormed, IsShown, Good}
+use Rattle.snap_call.specs.Step.{are_formed, counted, one, prepared, committed, leases_after, added, viewed, removed_at, new_record}
+use Rattle.snap_call.proofs.Formed.{all_later, all_next, formed_charged, formed_committed, formed_labelled, formed_new}
+use Rattle.snap_call.proofs.Leasing.{name_at-place, place_of-name_at, place_of-taken, taken-below, guarding-with_name, names-added}
 use Rattle.snap_call.proofs.Lengths.{length-with_record, length-without, length-without_found, length-recharged, length-relabelled}
 use Rattle.snap_call.proofs.Lists.{all-map, all-both, committed-from, committed_at-record_at, find-with_record_own, find-none, none-passes, record_at-all, record_at-is_named, same_slot, active_at-all, all-with_record, pairwise-with_record, all-without, pairwise-without, all-beside, all-recharged, pairwise-recharged}
 use Rattle.snap_call.proofs.InOrder.{sorted-with_record, sorted-without, sorted-recharged, has_key-without}
@@ -156,8 +158,8 @@ good_deep s good place p e = ap not (some-within s.ancestors most_ancestors s.re
 
 -- ---- the counters alone
 
-pub good_counters : (s : State) (sessions entries : ℕ) → Good s → Good (record s { sessions = sessions; entries = entries })
-good_counters s m n good = record {
+pub good_counters : (s : State) (sessions entries : ℕ) → s.entries ≤ entries → Good s → Good (record s { sessions = sessions; entries = entries })
+good_counters s m n more good = record {
   root = good.root;
   promised = record {
     parents = good.promised.parents;
@@ -167,15 +169,20 @@ good_counters s m n good = record {
     chains = good.promised.chains;
   };
   named_once = good.named_once;
+  lease_names = good.lease_names;
+  lease_keys = good.lease_keys;
   limits = good.limits;
   short = good.short;
   distinct = good.distinct;
+  spaces = good.spaces;
+  few_spaces = good.few_spaces;
   placed = good.placed;
   sorted = good.sorted;
   ids = good.ids;
   numbered = good.numbered;
   rising = good.rising;
   fewer = good.fewer;
+  formed = all_later s.entries n more s.records good.formed;
   few_slots = good.few_slots;
   slots = good.slots;
   open_slots = good.open_slots;
@@ -185,7 +192,7 @@ good_counters s m n good = record {
 }
 
 pub good_counted : (s : State) → Good s → Good (counted s)
-good_counted s good = good_counters s s.sessions (s.entries + 1) good
+good_counted s good = good_counters s s.sessions (s.entries + 1) (omega arith) good
 
 -- ---- a new snapshot
 
@@ -204,12 +211,12 @@ base_below s good place (b ∷ bs) id base high = by (committed_at place (b ∷ 
 abbrev pub joined : State → Record → ℕ → ℕ → State
 joined s r next entries = record s { records = with_record r s.records; next_id = next; entries = entries }
 
--- of a free key, on a base that is there, with an id from the next one on, in no slot of another, and within the limit
+-- of a free key, on a base that is there, with an id from the next one on, well-formed, in no slot of another, and within the limit
 pub good_joined : (s : State) (r : Record) (next entries : ℕ) → Good s → is_taken_at r.namespace s.namespaces ≡ true → has_key r.namespace r.key s.records ≡ false
-    → is_base r.namespace r.parent s.records ≡ true → is_too_deep s.ancestors r.namespace r.parent s.records ≡ false → s.next_id ≤ r.id → r.id < next → IsUsageCounted r.content → HasLowSlot s.slots r.content → IsShown s.records r.namespace r.parent r.content
+    → is_base r.namespace r.parent s.records ≡ true → is_too_deep s.ancestors r.namespace r.parent s.records ≡ false → s.next_id ≤ r.id → r.id < next → s.entries ≤ entries → IsFormed entries r → IsUsageCounted r.content → HasLowSlot s.slots r.content → IsShown s.records r.namespace r.parent r.content
     → AllByRecursion (AreApart r) s.records → AllByRecursion (λ t. AreApart t r) s.records
     → Covers (limit_at r.namespace s.namespaces) (plus (charge_of r.namespace s.records) (usage_of r.content)) → Good (joined s r next entries)
-good_joined s r next entries good taken free base deep high below count few shown apart beside room = record {
+good_joined s r next entries good taken free base deep high below more formed count few shown apart beside room = record {
   root = good.root;
   promised = record {
     parents = stand_parents ns rs ts keeps ts (all-with_record r (HasParent rs) rs base good.promised.parents);
@@ -219,9 +226,13 @@ good_joined s r next entries good taken free base deep high below count few show
     chains = stand_chains ns rs ts keeps s.ancestors ts chained;
   };
   named_once = good.named_once;
+  lease_names = good.lease_names;
+  lease_keys = good.lease_keys;
   limits = good.limits;
   short = good.short;
   distinct = good.distinct;
+  spaces = good.spaces;
+  few_spaces = good.few_spaces;
   placed = all-with_record r (λ t. is_taken_at t.namespace ns ≡ true) rs taken good.placed;
   sorted = sorted-with_record r rs free good.sorted;
   ids = pairwise-with_record r (λ t u. t.id ≢ u.id) rs
@@ -231,6 +242,7 @@ good_joined s r next entries good taken free base deep high below count few show
   numbered = all-with_record r (λ t. t.id < next) rs below (all-map (λ t. t.id < s.next_id) (λ t. t.id < next) (λ t h. omega (arith, h, high, below)) rs good.numbered);
   rising = stand_rising ns rs ts keeps ts (all-with_record r (IsRising rs) rs (base_below s good r.namespace r.parent r.id base high) good.rising);
   fewer = omega (arith, length-with_record r rs, good.fewer, high, below);
+  formed = all-with_record r (IsFormed entries) rs formed (all_later s.entries entries more rs good.formed);
   few_slots = good.few_slots;
   slots = pairwise-with_record r AreApart rs apart beside good.slots;
   open_slots = all-with_record r (λ t. HasLowSlot s.slots t.content) rs few good.open_slots;
@@ -256,17 +268,17 @@ good_joined s r next entries good taken free base deep high below count few show
 
 -- with the next id
 pub good_added : (s : State) (r : Record) → Good s → is_taken_at r.namespace s.namespaces ≡ true → has_key r.namespace r.key s.records ≡ false
-    → is_base r.namespace r.parent s.records ≡ true → is_too_deep s.ancestors r.namespace r.parent s.records ≡ false → r.id ≡ s.next_id → IsUsageCounted r.content → HasLowSlot s.slots r.content → IsShown s.records r.namespace r.parent r.content
+    → is_base r.namespace r.parent s.records ≡ true → is_too_deep s.ancestors r.namespace r.parent s.records ≡ false → r.id ≡ s.next_id → IsFormed (s.entries + 1) r → IsUsageCounted r.content → HasLowSlot s.slots r.content → IsShown s.records r.namespace r.parent r.content
     → AllByRecursion (AreApart r) s.records → AllByRecursion (λ t. AreApart t r) s.records
     → Covers (limit_at r.namespace s.namespaces) (plus (charge_of r.namespace s.records) (usage_of r.content)) → Good (added s r)
-good_added s r good taken free base deep next count few shown apart beside room =
-    good_joined s r (s.next_id + 1) (s.entries + 1) good taken free base deep (omega (arith, next)) (omega (arith, next)) count few shown apart beside room
+good_added s r good taken free base deep next formed count few shown apart beside room =
+    good_joined s r (s.next_id + 1) (s.entries + 1) good taken free base deep (omega (arith, next)) (omega (arith, next)) (omega arith) formed count few shown apart beside room
 
 pub good_prepared : (s : State) (place : ℕ) (key parent : Bytes) (labels : List Label) (slot : ℕ) → Good s → is_taken_at place s.namespaces ≡ true → has_key place key s.records ≡ false
-    → is_base place parent s.records ≡ true → is_too_deep s.ancestors place parent s.records ≡ false → slot < s.slots → active_at slot s.records ≡ None
+    → is_base place parent s.records ≡ true → is_too_deep s.ancestors place parent s.records ≡ false → (is_key key && is_parent parent && are_labels labels) ≡ true → slot < s.slots → active_at slot s.records ≡ None
     → Covers (limit_at place s.namespaces) (plus (charge_of place s.records) one) → Good (prepared s place key parent labels slot).0
-good_prepared s place key parent labels slot good low free base deep few none room =
-    good_added s r good low free base deep refl tt few tt
+good_prepared s place key parent labels slot good low free base deep texts few none room =
+    good_added s r good low free base deep refl (formed_new s place key parent labels (Active slot one) good texts) tt few tt
     (all-map (λ t. is_slot slot t ≡ false) (AreApart r) (λ t out k is. subst (λ (n : ℕ). is_slot n t ≡ false) (eqb-true slot k is) out) s.records empty)
     (all-map (λ t. is_slot slot t ≡ false) (λ t. AreApart t r) (λ t out k is. apart_other slot k one t.content out is) s.records empty)
     room
@@ -282,17 +294,19 @@ pub nothing_more : (limit total : Usage) → Covers limit total → Covers limit
 nothing_more limit total a = record { blocks = omega (arith, a.blocks); inodes = omega (arith, a.inodes) }
 
 -- a view is in no slot, and is charged nothing
-pub good_view_added : (s : State) (r : Record) → Good s → r.content ≡ View (shown_layers r.namespace r.parent s.records) → r.id ≡ s.next_id → is_taken_at r.namespace s.namespaces ≡ true → has_key r.namespace r.key s.records ≡ false
+pub good_view_added : (s : State) (r : Record) → Good s → r.content ≡ View (shown_layers r.namespace r.parent s.records) → r.id ≡ s.next_id → IsFormed (s.entries + 1) r → is_taken_at r.namespace s.namespaces ≡ true → has_key r.namespace r.key s.records ≡ false
     → is_base r.namespace r.parent s.records ≡ true → is_too_deep s.ancestors r.namespace r.parent s.records ≡ false → Good (added s r)
-good_view_added s r good is next low free base deep =
-    good_added s r good low free base deep next (subst IsUsageCounted (sym is) tt) (subst (HasLowSlot s.slots) (sym is) tt) (subst (IsShown s.records r.namespace r.parent) (sym is) refl)
+good_view_added s r good is next formed low free base deep =
+    good_added s r good low free base deep next formed (subst IsUsageCounted (sym is) tt) (subst (HasLowSlot s.slots) (sym is) tt) (subst (IsShown s.records r.namespace r.parent) (sym is) refl)
     (all-map (λ t. HasLowSlot s.slots t.content) (AreApart r) (λ t h k held. absurd (true≢false (sym held ∙ ap (has_slot k) is))) s.records good.open_slots)
     (all-map (λ t. HasLowSlot s.slots t.content) (λ t. AreApart t r) (λ t h k held. ap (has_slot k) is) s.records good.open_slots)
     (subst (λ (u : Usage). Covers (limit_at r.namespace s.namespaces) (plus (charge_of r.namespace s.records) u)) (sym (ap usage_of is)) (nothing_more (limit_at r.namespace s.namespaces) (charge_of r.namespace s.records) (good.promised.within r.namespace (taken-below r.namespace s.namespaces low))))
 
 pub good_viewed : (s : State) (place : ℕ) (key parent : Bytes) (labels : List Label) → Good s → is_taken_at place s.namespaces ≡ true → has_key place key s.records ≡ false
-    → is_base place parent s.records ≡ true → is_too_deep s.ancestors place parent s.records ≡ false → Good (viewed s place key parent labels).0
-good_viewed s place key parent labels good low free base deep = good_view_added s (new_record s place key parent labels (View (shown_layers place parent s.records))) good refl refl low free base deep
+    → is_base place parent s.records ≡ true → is_too_deep s.ancestors place parent s.records ≡ false → (is_key key && is_parent parent && are_labels labels) ≡ true → Good (viewed s place key parent labels).0
+good_viewed s place key parent labels good low free base deep texts =
+    let shown = View (shown_layers place parent s.records) in
+    good_view_added s (new_record s place key parent labels shown) good refl refl (formed_new s place key parent labels shown good texts) low free base deep
 
 -- ---- an active snapshot charged anew
 
@@ -314,15 +328,20 @@ module _ (slot : ℕ) (to : Usage) where
       chains = stand_chains ns rs ts keeps s.ancestors ts chained;
     };
     named_once = good.named_once;
+    lease_names = good.lease_names;
+    lease_keys = good.lease_keys;
     limits = good.limits;
     short = good.short;
     distinct = good.distinct;
+    spaces = good.spaces;
+    few_spaces = good.few_spaces;
     placed = all-recharged slot to (λ t. is_taken_at t.namespace ns ≡ true) rs (λ t is h. h) good.placed;
     sorted = sorted-recharged slot to rs good.sorted;
     ids = pairwise-recharged slot to (λ t u. t.id ≢ u.id) rs (λ t u is h. h) (λ t u is h. h) good.ids;
     numbered = all-recharged slot to (λ t. t.id < s.next_id) rs (λ t is h. h) good.numbered;
     rising = stand_rising ns rs ts keeps ts (all-recharged slot to (IsRising rs) rs (λ t is h. h) good.rising);
     fewer = omega (arith, length-recharged slot to rs, good.fewer);
+    formed = all-recharged slot to (IsFormed (s.entries + 1)) rs (λ t is h. formed_charged (s.entries + 1) slot to t h) (all_next s good);
     few_slots = good.few_slots;
     slots = pairwise-recharged slot to AreApart rs
         (λ t u is h k out. h k (sym (same_slot slot k to t.content is) ∙ out))
@@ -371,15 +390,20 @@ good_discarded s slot r good e = record {
     chains = stand_chains ns rs ts keeps s.ancestors ts chained;
   };
   named_once = good.named_once;
+  lease_names = good.lease_names;
+  lease_keys = good.lease_keys;
   limits = good.limits;
   short = good.short;
   distinct = good.distinct;
+  spaces = good.spaces;
+  few_spaces = good.few_spaces;
   placed = all-without (is_slot slot) (λ t. is_taken_at t.namespace ns ≡ true) rs good.placed;
   sorted = sorted-without (is_slot slot) rs good.sorted;
   ids = pairwise-without (is_slot slot) (λ t u. t.id ≢ u.id) rs good.ids;
   numbered = all-without (is_slot slot) (λ t. t.id < s.next_id) rs good.numbered;
   rising = stand_rising ns rs ts keeps ts (all-without (is_slot slot) (IsRising rs) rs good.rising);
   fewer = omega (arith, length-without (is_slot slot) rs, good.fewer);
+  formed = all-without (is_slot slot) (IsFormed (s.entries + 1)) rs (all_next s good);
   few_slots = good.few_slots;
   slots = pairwise-without (is_slot slot) AreApart rs good.slots;
   open_slots = all-without (is_slot slot) (λ t. HasLowSlot s.slots t.content) rs good.open_slots;
@@ -464,15 +488,20 @@ module _ (s : State) (place : ℕ) (key : Bytes) (r : Record) (good : Good s) (e
       chains = chains_on P rs ts keeps s.ancestors ts on chained;
     };
     named_once = good.named_once;
+    lease_names = good.lease_names;
+    lease_keys = good.lease_keys;
     limits = good.limits;
     short = good.short;
     distinct = good.distinct;
+    spaces = good.spaces;
+    few_spaces = good.few_spaces;
     placed = all-without p (λ t. is_taken_at t.namespace ns ≡ true) rs good.placed;
     sorted = sorted-without p rs good.sorted;
     ids = pairwise-without p (λ t u. t.id ≢ u.id) rs good.ids;
     numbered = all-without p (λ t. t.id < s.next_id) rs good.numbered;
     rising = rising_on P rs ts keeps ts on (all-without p (IsRising rs) rs good.rising);
     fewer = omega (arith, length-without p rs, good.fewer);
+    formed = all-without p (IsFormed (s.entries + 1)) rs (all_next s good);
     few_slots = good.few_slots;
     slots = pairwise-without p AreApart rs good.slots;
     open_slots = all-without p (λ t. HasLowSlot s.slots t.content) rs good.open_slots;
@@ -510,9 +539,9 @@ module _ (s : State) (place : ℕ) (key : Bytes) (r : Record) (good : Good s) (e
 
 -- ---- a snapshot committed
 
-pub good_committed : (s : State) (slot : ℕ) (name : Bytes) (lease : Option Bytes) (labels : Option (List Label)) (layer : Tree) (r : Record) → Good s → active_at slot s.records ≡ Some r → has_key r.namespace name s.records ≡ false → Covers (usage_of r.content) (count_of layer)
+pub good_committed : (s : State) (slot : ℕ) (name : Bytes) (lease : Option Bytes) (labels : Option (List Label)) (layer : Tree) (r : Record) → Good s → active_at slot s.records ≡ Some r → are_formed name lease labels ≡ true → has_key r.namespace name s.records ≡ false → Covers (usage_of r.content) (count_of layer)
     → Good (committed s slot name lease labels layer r).0
-good_committed s slot name lease labels layer r good e free less = record {
+good_committed s slot name lease labels layer r good e given free less = record {
   root = good.root;
   promised = record {
     parents = stand_parents ns rs ts keeps ts (all-with_record c (HasParent rs) us (active_at-all (HasParent rs) slot rs r e good.promised.parents) (all-without (is_slot slot) (HasParent rs) rs good.promised.parents));
@@ -524,9 +553,13 @@ good_committed s slot name lease labels layer r good e free less = record {
     chains = stand_chains ns rs ts keeps s.ancestors ts chained;
   };
   named_once = once lease;
+  lease_names = lease_forms lease;
+  lease_keys = keys_apart lease;
   limits = good.limits;
   short = good.short;
   distinct = good.distinct;
+  spaces = good.spaces;
+  few_spaces = good.few_spaces;
   placed = all-with_record c (λ t. is_taken_at t.namespace ns ≡ true) us taken (all-without (is_slot slot) (λ t. is_taken_at t.namespace ns ≡ true) rs good.placed);
   sorted = sorted-with_record c us left (sorted-without (is_slot slot) rs good.sorted);
   ids = pairwise-with_record c (λ t u. t.id ≢ u.id) us
@@ -536,6 +569,7 @@ good_committed s slot name lease labels layer r good e free less = record {
   numbered = all-with_record c (λ t. t.id < s.next_id) us (active_at-all (λ t. t.id < s.next_id) slot rs r e good.numbered) (all-without (is_slot slot) (λ t. t.id < s.next_id) rs good.numbered);
   rising = stand_rising ns rs ts keeps ts (all-with_record c (IsRising rs) us (active_at-all (IsRising rs) slot rs r e good.rising) (all-without (is_slot slot) (IsRising rs) rs good.rising));
   fewer = omega (arith, length-with_record c us, length-without_found (is_slot slot) rs r e, good.fewer);
+  formed = all-with_record c (IsFormed (s.entries + 1)) us (formed_committed (s.entries + 1) name lease labels layer r given (active_at-all (IsFormed (s.entries + 1)) slot rs r e held)) (all-without (is_slot slot) (IsFormed (s.entries + 1)) rs held);
   few_slots = good.few_slots;
   slots = pairwise-with_record c AreApart us
       (all-map (λ t. HasLowSlot s.slots t.content) (AreApart c) (λ t h k is. absurd (true≢false (sym is))) us places)
@@ -588,6 +622,14 @@ good_committed s slot name lease labels layer r good e free less = record {
     guarding None = stood
     guarding (Some l) = guarding-with_name ns ts (name_at r.namespace ns) name r.namespace (place_of-name_at ns r.namespace good.distinct taken) there l s.leases stood
 
+    lease_forms : (l : Option Bytes) → AllByRecursion (λ k. is_key k.name ≡ true) (leases_after s r.namespace name l)
+    lease_forms None = good.lease_names
+    lease_forms (Some l) = names-added (name_at r.namespace ns) l name s.leases good.lease_names
+
+    keys_apart : (l : Option Bytes) → AreDistinct (leases_after s r.namespace name l)
+    keys_apart None = good.lease_keys
+    keys_apart (Some l) = AreDistinct-with_name_added (name_at r.namespace ns) l name s.leases good.lease_keys
+
     once : (l : Option Bytes) → AllByRecursion NamesOnce (leases_after s r.namespace name l)
     once None = good.named_once
     once (Some l) = NamesOnce-with_name_added (name_at r.namespace ns) l name s.leases good.named_once
@@ -595,13 +637,16 @@ good_committed s slot name lease labels layer r good e free less = record {
     chained : AllByRecursion (λ t. IsSome (chain s.ancestors rs t)) ts
     chained = all-with_record c (λ t. IsSome (chain s.ancestors rs t)) us (active_at-all (λ t. IsSome (chain s.ancestors rs t)) slot rs r e good.promised.chains) (all-without (is_slot slot) (λ t. IsSome (chain s.ancestors rs t)) rs good.promised.chains)
 
+    held : AllByRecursion (IsFormed (s.entries + 1)) rs
+    held = all_next s good
+
     places : AllByRecursion (λ t. HasLowSlot s.slots t.content) us
     places = all-without (is_slot slot) (λ t. HasLowSlot s.slots t.content) rs good.open_slots
 
 -- ---- a snapshot with other labels
 
-pub good_relabelled : (s : State) (place : ℕ) (key : Bytes) (labels : List Label) → Good s → Good (record s { records = relabelled place key labels (s.entries + 1) s.records; entries = s.entries + 1 })
-good_relabelled s place key labels good = record {
+pub good_relabelled : (s : State) (place : ℕ) (key : Bytes) (labels : List Label) → Good s → are_labels labels ≡ true → Good (record s { records = relabelled place key labels (s.entries + 1) s.records; entries = s.entries + 1 })
+good_relabelled s place key labels good formed = record {
   root = good.root;
   promised = record {
     parents = all-relabelled place key labels n (HasParent ts) rs (λ t h. h) (all-map (HasParent rs) (HasParent ts) (alike-HasParent rs ts alike) rs good.promised.parents);
@@ -611,15 +656,20 @@ good_relabelled s place key labels good = record {
     chains = all-relabelled place key labels n (λ t. IsSome (chain s.ancestors ts t)) rs (λ t h. h) (all-map (λ t. IsSome (chain s.ancestors rs t)) (λ t. IsSome (chain s.ancestors ts t)) (alike-some_chain rs ts alike s.ancestors) rs good.promised.chains);
   };
   named_once = good.named_once;
+  lease_names = good.lease_names;
+  lease_keys = good.lease_keys;
   limits = good.limits;
   short = good.short;
   distinct = good.distinct;
+  spaces = good.spaces;
+  few_spaces = good.few_spaces;
   placed = all-relabelled place key labels n (λ t. is_taken_at t.namespace ns ≡ true) rs (λ t h. h) good.placed;
   sorted = sorted-relabelled place key labels n rs good.sorted;
   ids = pairwise-relabelled place key labels n (λ t u. t.id ≢ u.id) rs (λ t u h. h) (λ t u h. h) good.ids;
   numbered = all-relabelled place key labels n (λ t. t.id < s.next_id) rs (λ t h. h) good.numbered;
   rising = all-relabelled place key labels n (IsRising ts) rs (λ t h. h) (all-map (IsRising rs) (IsRising ts) (alike-IsRising rs ts alike) rs good.rising);
   fewer = omega (arith, length-relabelled place key labels n rs, good.fewer);
+  formed = all-relabelled place key labels n (IsFormed n) rs (formed_labelled n labels formed) (all_next s good);
   few_slots = good.few_slots;
   slots = pairwise-relabelled place key labels n AreApart rs (λ t u h. h) (λ t u h. h) good.slots;
   open_slots = all-relabelled place key labels n (λ t. HasLowSlot s.slots t.content) rs (λ t h. h) good.open_slots;

@@ -9,19 +9,20 @@ use Rattle.std.proofs.lemmas.Slice.Eq.{bytes_eq-Decides}
 use Rattle.snap_usage.specs.declared.usage.Usage.{Usage}
 use Rattle.snap_usage.specs.Counted.{Covers}
 use Rattle.snap_lease.specs.Lease.{Lease, NamesOnce, does_name, is_lease, empty_lease, with_lease_name, without_lease_name}
-use Rattle.snap_lease.specs.Leases.{with_name_added, with_name_dropped, without_lease}
-use Rattle.snap_lease.proofs.DropLemmas.{NamesOnce-with_name_dropped}
-use Rattle.snap_lease.proofs.ListLemmas.{is_lease-parts, all-push, all-filter, NamesOnce-empty, NamesOnce-with_name_added}
+use Rattle.snap_lease.specs.Leases.{AreDistinct, has_lease, with_name_added, with_name_dropped, without_lease}
+use Rattle.snap_lease.proofs.DropLemmas.{AreDistinct-with_name_dropped, NamesOnce-with_name_dropped}
+use Rattle.snap_lease.proofs.ListLemmas.{is_lease-parts, is_lease_comm, all-push, all-filter, name-changed, AreDistinct-with_name_added, IsDistinct-filter, IsDistinct-push, NamesOnce-empty, NamesOnce-with_name_added}
 use Rattle.snap_record.specs.Labels.{Bytes}
 use Rattle.snap_record.specs.declared.record.Record.{Record}
 use Rattle.snap_call.specs.declared.config.Namespace.{Namespace}
 use Rattle.snap_call.specs.declared.state.State.{State}
-use Rattle.snap_call.specs.Forms.{have_distinct_names, is_limit}
+use Rattle.snap_call.specs.Forms.{have_distinct_names, is_key, is_limit, is_space}
 use Rattle.snap_call.specs.Good.{Good}
 use Rattle.snap_call.specs.Records.{charge_of, committed_at}
 use Rattle.snap_call.specs.State.{place_of, name_at, limit_at, has_name, is_taken, is_taken_at, with_limit}
 use Rattle.snap_call.specs.Step.{leasing}
 use Rattle.snap_call.proofs.Chains.{NamesStand}
+use Rattle.snap_call.proofs.Formed.{all_next, space_limited}
 use Rattle.snap_call.proofs.Lists.{all-map, some_same}
 use Rattle.snap_call.proofs.Parts.{limited_at}
 use Rattle.snap_call.specs.Promised.{IsGuarding}
@@ -158,6 +159,11 @@ module _ (limit : Usage) where
   short-limited zero (n ∷ ns) all = all
   short-limited (suc place) (n ∷ ns) all = (all.0, short-limited place ns all.1)
 
+  spaces-limited : (place : ℕ) (ns : List Namespace) → is_taken_at place ns ≡ true → is_limit limit ≡ true → AllByRecursion (λ n. is_space n ≡ true) ns → AllByRecursion (λ n. is_space n ≡ true) (with_limit place limit ns)
+  spaces-limited place [] taken is all = tt
+  spaces-limited zero (n ∷ ns) taken is all = (space_limited limit is n taken all.0, all.1)
+  spaces-limited (suc place) (n ∷ ns) taken is all = (all.0, spaces-limited place ns taken is all.1)
+
   pub limit_at-limited_own : (place : ℕ) (ns : List Namespace) → place < length ns → limit_at place (with_limit place limit ns) ≡ limit
   limit_at-limited_own place [] low = absurd (omega arith)
   limit_at-limited_own zero (n ∷ ns) low = refl
@@ -178,26 +184,31 @@ module _ (limit : Usage) where
     | inr apart ↦ subst (P p) (sym (limit_at-limited_other p place ns apart)) (all p (subst (λ (m : ℕ). p < m) (length-limited place ns) low))
   ]
 
-  pub good_limited : (s : State) (place : ℕ) → Good s → place < length s.namespaces → is_limit limit ≡ true → Covers limit (charge_of place s.records) → Good (limited_at s place limit)
-  good_limited s place good low is covered = record {
+  pub good_limited : (s : State) (place : ℕ) → Good s → is_taken_at place s.namespaces ≡ true → is_limit limit ≡ true → Covers limit (charge_of place s.records) → Good (limited_at s place limit)
+  good_limited s place good taken is covered = record {
     root = good.root;
     promised = record {
       parents = good.promised.parents;
       leased = all-map (IsGuarding s.namespaces s.records) (IsGuarding (with_limit place limit s.namespaces) s.records) (λ l h. subst (λ (o : Option ℕ). NamesStand s.records o l.names) (sym (place_of-limited l.namespace place s.namespaces)) h) s.leases good.promised.leased;
       counted = good.promised.counted;
-      within = limits_anew (λ p u. Covers u (charge_of p s.records)) place s.namespaces low covered good.promised.within;
+      within = limits_anew (λ p u. Covers u (charge_of p s.records)) place s.namespaces (taken-below place s.namespaces taken) covered good.promised.within;
       chains = good.promised.chains;
     };
     named_once = good.named_once;
-    limits = limits_anew (λ p u. is_limit u ≡ true) place s.namespaces low is good.limits;
+    lease_names = good.lease_names;
+    lease_keys = good.lease_keys;
+    limits = limits_anew (λ p u. is_limit u ≡ true) place s.namespaces (taken-below place s.namespaces taken) is good.limits;
     short = short-limited place s.namespaces good.short;
     distinct = distinct-limited place s.namespaces ∙ good.distinct;
+    spaces = spaces-limited place s.namespaces taken is good.spaces;
+    few_spaces = omega (arith, length-limited place s.namespaces, good.few_spaces);
     placed = all-map (λ r. is_taken_at r.namespace s.namespaces ≡ true) (λ r. is_taken_at r.namespace (with_limit place limit s.namespaces) ≡ true) (λ r h. taken-limited r.namespace place s.namespaces ∙ h) s.records good.placed;
     sorted = good.sorted;
     ids = good.ids;
     numbered = good.numbered;
     rising = good.rising;
     fewer = good.fewer;
+    formed = all_next s good;
     few_slots = good.few_slots;
     slots = good.slots;
     open_slots = good.open_slots;
@@ -208,8 +219,8 @@ module _ (limit : Usage) where
 
 -- ---- other leases
 
-pub good_leasing : (s : State) (ls : List Lease) → Good s → AllByRecursion (IsGuarding s.namespaces s.records) ls → AllByRecursion NamesOnce ls → Good (leasing s ls)
-good_leasing s ls good leased once = record {
+pub good_leasing : (s : State) (ls : List Lease) → Good s → AllByRecursion (IsGuarding s.namespaces s.records) ls → AllByRecursion NamesOnce ls → AllByRecursion (λ l. is_key l.name ≡ true) ls → AreDistinct ls → Good (leasing s ls)
+good_leasing s ls good leased once names keys = record {
   root = good.root;
   promised = record {
     parents = good.promised.parents;
@@ -219,15 +230,20 @@ good_leasing s ls good leased once = record {
     chains = good.promised.chains;
   };
   named_once = once;
+  lease_names = names;
+  lease_keys = keys;
   limits = good.limits;
   short = good.short;
   distinct = good.distinct;
+  spaces = good.spaces;
+  few_spaces = good.few_spaces;
   placed = good.placed;
   sorted = good.sorted;
   ids = good.ids;
   numbered = good.numbered;
   rising = good.rising;
   fewer = good.fewer;
+  formed = all_next s good;
   few_slots = good.few_slots;
   slots = good.slots;
   open_slots = good.open_slots;
@@ -237,11 +253,13 @@ good_leasing s ls good leased once = record {
 }
 
 -- no names yet
-pub good_created : (s : State) (namespace lease : Bytes) (until : Option ℕ) (place : ℕ) → Good s → place_of namespace s.namespaces ≡ Some place → Good (leasing s (s.leases ++ empty_lease namespace lease until ∷ []))
-good_created s namespace lease until place good spaced =
+pub good_created : (s : State) (namespace lease : Bytes) (until : Option ℕ) (place : ℕ) → Good s → place_of namespace s.namespaces ≡ Some place → is_key lease ≡ true → has_lease s.leases namespace lease ≡ false → Good (leasing s (s.leases ++ empty_lease namespace lease until ∷ []))
+good_created s namespace lease until place good spaced formed new =
     good_leasing s _ good
     (all-push (IsGuarding s.namespaces s.records) s.leases (empty_lease namespace lease until) good.promised.leased (subst (λ (o : Option ℕ). NamesStand s.records o []) (sym spaced) tt))
     (all-push NamesOnce s.leases (empty_lease namespace lease until) good.named_once (NamesOnce-empty namespace lease until))
+    (all-push (λ l. is_key l.name ≡ true) s.leases (empty_lease namespace lease until) good.lease_names formed)
+    (IsDistinct-push (λ l. is_lease l.namespace l.name) is_lease_comm s.leases (empty_lease namespace lease until) good.lease_keys new)
 
 -- one more name, of a committed snapshot of the lease's namespace
 module _ (ns : List Namespace) (rs : List Record) (namespace name : Bytes) (place : ℕ) (spaced : place_of namespace ns ≡ Some place) (there : IsSome (committed_at place name rs)) where
@@ -264,9 +282,15 @@ module _ (ns : List Namespace) (rs : List Record) (namespace name : Bytes) (plac
       by true is = guarding-name l (is_lease-parts namespace lease l is).0 all.0
       by false is = all.0
 
+-- a lease keeps its own name
+pub names-added : (namespace lease name : Bytes) (ls : List Lease) → AllByRecursion (λ l. is_key l.name ≡ true) ls → AllByRecursion (λ l. is_key l.name ≡ true) (with_name_added ls namespace lease name)
+names-added namespace lease name [] all = tt
+names-added namespace lease name (l ∷ ls) all = (ap is_key (name-changed namespace lease name l) ∙ all.0, names-added namespace lease name ls all.1)
+
 pub good_named : (s : State) (namespace lease name : Bytes) (place : ℕ) → Good s → place_of namespace s.namespaces ≡ Some place → IsSome (committed_at place name s.records) → Good (leasing s (with_name_added s.leases namespace lease name))
 good_named s namespace lease name place good spaced there =
     good_leasing s _ good (guarding-with_name s.namespaces s.records namespace name place spaced there lease s.leases good.promised.leased) (NamesOnce-with_name_added namespace lease name s.leases good.named_once)
+    (names-added namespace lease name s.leases good.lease_names) (AreDistinct-with_name_added namespace lease name s.leases good.lease_keys)
 
 -- one name fewer
 names_fewer : (rs : List Record) (o : Option ℕ) (p : Bytes → Bool) (names : List Bytes) → NamesStand rs o names → NamesStand rs o (filter p names)
@@ -281,11 +305,21 @@ guarding-without_name ns rs namespace lease name (l ∷ ls) all = (by (is_lease 
     by true = names_fewer rs (place_of l.namespace ns) (λ n. not (bytes_eq name n)) l.names all.0
     by false = all.0
 
+names-dropped : (namespace lease name : Bytes) (ls : List Lease) → AllByRecursion (λ l. is_key l.name ≡ true) ls → AllByRecursion (λ l. is_key l.name ≡ true) (with_name_dropped ls namespace lease name)
+names-dropped namespace lease name [] all = tt
+names-dropped namespace lease name (l ∷ ls) all = (by (is_lease namespace lease l), names-dropped namespace lease name ls all.1)
+  where
+    by : (b : Bool) → is_key (if b then without_lease_name name l else l).name ≡ true
+    by true = all.0
+    by false = all.0
+
 pub good_dropped : (s : State) (namespace lease name : Bytes) → Good s → Good (leasing s (with_name_dropped s.leases namespace lease name))
 good_dropped s namespace lease name good =
     good_leasing s _ good (guarding-without_name s.namespaces s.records namespace lease name s.leases good.promised.leased) (NamesOnce-with_name_dropped namespace lease name s.leases good.named_once)
+    (names-dropped namespace lease name s.leases good.lease_names) (AreDistinct-with_name_dropped namespace lease name s.leases good.lease_keys)
 
 -- one lease fewer
 pub good_released : (s : State) (namespace lease : Bytes) → Good s → Good (leasing s (without_lease s.leases namespace lease))
 good_released s namespace lease good =
     good_leasing s _ good (all-filter (IsGuarding s.namespaces s.records) (λ l. not (is_lease namespace lease l)) s.leases good.promised.leased) (all-filter NamesOnce (λ l. not (is_lease namespace lease l)) s.leases good.named_once)
+    (all-filter (λ l. is_key l.name ≡ true) (λ l. not (is_lease namespace lease l)) s.leases good.lease_names) (IsDistinct-filter (λ l. is_lease l.namespace l.name) (λ l. not (is_lease namespace lease l)) s.leases good.lease_keys)

@@ -1,5 +1,6 @@
 pub mod Lists
 mod Lengths
+pub mod Formed
 pub mod InOrder
 pub mod Entries
 pub mod Joined
@@ -27,6 +28,7 @@ pub mod Keeping
 pub mod Reaching
 pub mod Sweeping
 pub mod Spacing
+pub mod Opening
 pub mod Kept
 pub mod Promising
 pub mod Cutting
@@ -37,3 +39,8 @@ pub mod AsMany
 pub mod Totals
 mod Named
 pub mod Saving
+pub mod ById
+pub mod Older
+pub mod Passing
+pub mod Back
+pub mod BackLeases

@@ -3,8 +3,9 @@ use Rattle.std.proofs.Common.{◌≡◌, ◌≢◌, ℕ, zero, suc, ◌+◌, ◌
 use Rattle.std.specs.List.{AllByRecursion, list_any}
 use Rattle.std.specs.BTreeMap.{get_by_text}
 use Rattle.std.specs.Option.{is_some, option_copied, option_map, option_or}
-use Rattle.std.specs.Prelude.{if◌then◌else◌, ◌&&◌, ◌||◌, bytes_eq, nat_le, position, slice_set}
+use Rattle.std.specs.Prelude.{if◌then◌else◌, ◌&&◌, ◌||◌, bytes_eq, count_by, nat_le, position, slice_set}
 use Rattle.std.proofs.lemmas.Bool.{and_from, and_parts, false_from_ne_true, not-true}
+use Rattle.std.proofs.lemmas.List.Sums.{sum_by-cons}
 use Rattle.std.proofs.lemmas.Slice.Eq.{bytes_eq-Decides}
 use Rattle.snap_counts.proofs.Reading.{Sets, read-Sets}
 use Rattle.snap_lease.proofs.ListLemmas.{bytes_eq_comm}
@@ -312,6 +313,19 @@ length-with n (m ∷ ms) = at (is_taken m) (length-with n ms)
         → (length (m ∷ ms) ≤ length (if b then m ∷ with_namespace n ms else n ∷ ms)) × (length (if b then m ∷ with_namespace n ms else n ∷ ms) ≤ length (m ∷ ms) + 1)
     at true rest = let low = rest.0 in let high = rest.1 in (omega (arith, low), omega (arith, high))
     at false rest = (omega arith, omega arith)
+
+-- and no more places than the most, where fewer namespaces stand before
+pub few-with : (most : ℕ) (n : Namespace) (ns : List Namespace) → length ns ≤ most → count_by is_taken ns < most → length (with_namespace n ns) ≤ most
+few-with most n [] few room = omega (arith, room)
+few-with zero n (m ∷ ms) few room = absurd (omega (arith, few))
+few-with (suc k) n (m ∷ ms) few room = at (is_taken m) refl (λ low. few-with k n ms (omega (arith, few)) low)
+  where
+    at : (b : Bool) → is_taken m ≡ b → (count_by is_taken ms < k → length (with_namespace n ms) ≤ k) → length (if b then m ∷ with_namespace n ms else n ∷ ms) ≤ suc k
+    at true is rest =
+        let one : ◌≡◌ {A = ℕ} (cond (is_taken m) 1 0) 1 = ap (λ (c : Bool). cond c 1 0) is in
+        let next = rest (omega (arith, one, sum_by-cons (λ x. cond (is_taken x) 1 0) m ms, room)) in
+        omega (arith, next)
+    at false is rest = omega (arith, few)
 
 -- no namespace stands at the first free place before
 pub free-untaken : (ns : List Namespace) → is_taken_at (free_place ns) ns ≡ false

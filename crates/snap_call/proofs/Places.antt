@@ -55,6 +55,10 @@ formed-Ok s namespace key parent place false e = absurd (cc)
 pub place_for-Ok : (s : State) (namespace key parent : Bytes) (labels : List Label) (place : ℕ) → place_for s namespace key parent labels ≡ Ok place → IsPlace s namespace key parent place
 place_for-Ok s namespace key parent labels place e = formed-Ok s namespace key parent place (is_key key && is_parent parent && are_labels labels) e
 
+-- and the texts have their forms
+pub place_for-texts : (s : State) (namespace key parent : Bytes) (labels : List Label) (place : ℕ) → place_for s namespace key parent labels ≡ Ok place → (is_key key && is_parent parent && are_labels labels) ≡ true
+place_for-texts s namespace key parent labels place e = (past_needed (is_key key && is_parent parent && are_labels labels) BadArgument _ place e).0
+
 -- a slot that is the lowest free one, with room for 1/1 and an id that is left
 pub record IsSlotFor (s : State) (place slot : ℕ) : Type 0 where
   pub lowest : lowest_free s.slots s.records ≡ Some slot

@@ -22,11 +22,12 @@ use Rattle.snap_call.specs.Records.{charge_of, has_slot, is_slot, active_at, Are
 use Rattle.snap_call.specs.Saved.{CanPutBack, HasFreeSlot, charge_for, content_for, numbers_answer, record_of, room_answer, slot_answer, with_saved}
 use Rattle.snap_call.specs.State.{limit_at, over_limit}
 use Rattle.snap_call.specs.Step.{one, place_for}
+use Rattle.snap_call.proofs.Formed.{all_later}
 use Rattle.snap_call.proofs.Keeping.{covers-Covers, good_joined}
 use Rattle.snap_call.proofs.Leasing.{place_of-taken}
 use Rattle.snap_call.proofs.Lists.{all-map, find-none}
 use Rattle.snap_call.proofs.Lowest.{is_taken-None}
-use Rattle.snap_call.proofs.Places.{past_needed, past_test, place_for-Ok}
+use Rattle.snap_call.proofs.Places.{past_needed, past_test, place_for-Ok, place_for-texts}
 
 -- ---- a slot that is free
 
@@ -77,16 +78,16 @@ apart_turned r t apart slot held = false_from_ne_true (is_slot slot r) (λ is. t
 -- a state stays good
 pub good_saved : (s : State) (r : Record) → Good s → CanPutBack s r → Good (with_saved s r)
 good_saved s r good can =
-    good_joined s r (r.id + 1) s.entries good can.taken can.new can.base can.deep can.above (omega arith) can.counted (few_slots s r can s.slots (omega arith)) can.shown
+    good_joined s r (r.id + 1) s.entries good can.taken can.new can.base can.deep can.above (omega arith) (omega arith) can.formed can.counted (few_slots s r can s.slots (omega arith)) can.shown
     apart (all-map (AreApart r) (λ t. AreApart t r) (apart_turned r) s.records apart)
     (covers-Covers (limit_at r.namespace s.namespaces) (plus (charge_of r.namespace s.records) (usage_of r.content)) can.fits)
   where
     apart : AllByRecursion (AreApart r) s.records
     apart = apart_from r s.records (λ slot is. find-none (is_slot slot) s.records (free_slot s r can slot is))
 
--- a greater next id, and another number of entries
-pub good_numbered : (s : State) (next entries : ℕ) → s.next_id ≤ next → Good s → Good (record s { next_id = next; entries = entries })
-good_numbered s next entries more good = record {
+-- a greater next id, and a greater number of entries
+pub good_numbered : (s : State) (next entries : ℕ) → s.next_id ≤ next → s.entries ≤ entries → Good s → Good (record s { next_id = next; entries = entries })
+good_numbered s next entries more later good = record {
   root = good.root;
   promised = record {
     parents = good.promised.parents;
@@ -96,15 +97,20 @@ good_numbered s next entries more good = record {
     chains = good.promised.chains;
   };
   named_once = good.named_once;
+  lease_names = good.lease_names;
+  lease_keys = good.lease_keys;
   limits = good.limits;
   short = good.short;
   distinct = good.distinct;
+  spaces = good.spaces;
+  few_spaces = good.few_spaces;
   placed = good.placed;
   sorted = good.sorted;
   ids = good.ids;
   numbered = all-map (λ r. r.id < s.next_id) (λ r. r.id < next) (λ r h. omega (arith, h, more)) s.records good.numbered;
   rising = good.rising;
   fewer = omega (arith, good.fewer, more);
+  formed = all_later s.entries entries later s.records good.formed;
   few_slots = good.few_slots;
   slots = good.slots;
   open_slots = good.open_slots;
@@ -140,12 +146,13 @@ content_slot s (Active slot charged) place parent rs e =
 content_slot s (Committed layer) place parent rs e = tt
 
 module _ (s : State) (saved : Saved) (place : ℕ) where
-  pub can_put_back : place_for s saved.namespace saved.key saved.parent saved.labels ≡ Ok place → numbers_answer s saved ≡ Ok tt → slot_answer s saved.content ≡ Ok tt → room_answer s place (charge_for saved.content) ≡ Ok tt → CanPutBack s (record_of s place saved)
-  can_put_back at numbers slot room =
+  pub can_put_back : 1 ≤ saved.id → place_for s saved.namespace saved.key saved.parent saved.labels ≡ Ok place → numbers_answer s saved ≡ Ok tt → slot_answer s saved.content ≡ Ok tt → room_answer s place (charge_for saved.content) ≡ Ok tt → CanPutBack s (record_of s place saved)
+  can_put_back positive at numbers slot room =
       let is = place_for-Ok s saved.namespace saved.key saved.parent saved.labels place at in
       let above = past_needed (nat_le s.next_id saved.id) NumbersSpent _ tt numbers in
-      let known = past_needed (nat_le saved.created s.entries && nat_le saved.updated s.entries) NumbersSpent _ tt above.1 in
-      let both = and_parts (nat_le saved.created s.entries) (nat_le saved.updated s.entries) known.0 in
+      let known = past_needed (nat_le 1 saved.created && nat_le saved.created saved.updated && nat_le saved.updated s.entries) NumbersSpent _ tt above.1 in
+      let both = and_parts (nat_le 1 saved.created && nat_le saved.created saved.updated) (nat_le saved.updated s.entries) known.0 in
+      let first = and_parts (nat_le 1 saved.created) (nat_le saved.created saved.updated) both.0 in
       let fits = past_needed (covers (limit_at place s.namespaces) (plus (charge_of place s.records) (charge_for saved.content))) (over_limit s place) _ tt room in
       record {
         taken = place_of-taken saved.namespace s.namespaces place is.named;
@@ -153,7 +160,11 @@ module _ (s : State) (saved : Saved) (place : ℕ) where
         base = is.base;
         deep = is.deep;
         above = leb-true s.next_id saved.id above.0;
-        known = (leb-true saved.created s.entries both.0, leb-true saved.updated s.entries both.1);
+        formed = record {
+          texts = place_for-texts s saved.namespace saved.key saved.parent saved.labels place at;
+          above = positive;
+          known = (leb-true 1 saved.created first.0, leb-true saved.created saved.updated first.1, leb-true saved.updated s.entries both.1);
+        };
         slot = content_slot s saved.content place saved.parent s.records slot;
         shown = content_shown saved.content place saved.parent s.records;
         counted = content_counted saved.content place saved.parent s.records;

@@ -1,8 +1,8 @@
 -- What is true of the state after a namespace was made, and after one was taken away.
-use Rattle.std.proofs.Common.{◌≡◌, ◌≢◌, ℕ, ◌<◌, ◌≤◌, Bool, true, false, true≢false, cond, eq-eqb, List, length, Option, Some, None, refl, sym, ap, ◌∙◌, subst, inl, inr, arith}
+use Rattle.std.proofs.Common.{◌≡◌, ◌≢◌, ℕ, ◌<◌, ◌≤◌, count_by, Bool, true, false, true≢false, cond, eq-eqb, List, length, Option, Some, None, refl, sym, ap, ◌∙◌, subst, inl, inr, arith}
 use Rattle.std.specs.List.{AllByRecursion, list_any}
 use Rattle.std.specs.Prelude.{◌==◌, ◌&&◌, ◌||◌, bytes_eq, nat_le, not}
-use Rattle.std.proofs.lemmas.Bool.{and_parts, cases_eq, leb-true}
+use Rattle.std.proofs.lemmas.Bool.{and_parts, cases_eq, leb-true, or_left}
 use Rattle.std.proofs.lemmas.Slice.Eq.{bytes_eq-Decides}
 use Rattle.snap_usage.specs.declared.usage.Usage.{Usage}
 use Rattle.snap_usage.specs.Counted.{Covers, no_usage}
@@ -12,23 +12,24 @@ use Rattle.snap_lease.proofs.ListLemmas.{bytes_eq_comm}
 use Rattle.snap_record.specs.Labels.{Bytes}
 use Rattle.snap_call.specs.declared.config.Namespace.{Namespace}
 use Rattle.snap_call.specs.declared.state.State.{State}
-use Rattle.snap_call.specs.Forms.{have_distinct_names, is_limit, is_namespace, is_text}
+use Rattle.snap_call.specs.Forms.{have_distinct_names, is_limit, is_namespace, is_space, is_text}
 use Rattle.snap_call.specs.Good.{Good}
 use Rattle.snap_call.specs.Records.{charge_of, has_records}
-use Rattle.snap_call.specs.State.{is_taken, is_taken_at, limit_at, place_of, with_namespace, without_namespace}
+use Rattle.snap_call.specs.State.{is_taken, is_taken_at, limit_at, most_namespaces, place_of, with_namespace, without_namespace}
 use Rattle.snap_call.specs.Step.{spacing}
 use Rattle.snap_call.proofs.Chains.{NamesStand}
+use Rattle.snap_call.proofs.Formed.{all_next}
 use Rattle.snap_call.proofs.Leasing.{name_at-place, place_of-taken}
 use Rattle.snap_call.proofs.Lists.{all-map, all-both, none-passes}
-use Rattle.snap_call.proofs.Naming.{all-with, all-without_namespace, distinct-with, distinct-without, free-untaken, free_place, length-without_namespace, limit_at-with_other, limit_at-with_own, limit_at-without_other, limited-without_own, place_of-with, place_of-without, taken-with, taken-without}
+use Rattle.snap_call.proofs.Naming.{all-with, all-without_namespace, distinct-with, distinct-without, few-with, free-untaken, free_place, length-without_namespace, limit_at-with_other, limit_at-with_own, limit_at-without_other, limited-without_own, place_of-with, place_of-without, taken-with, taken-without}
 use Rattle.snap_call.proofs.Sums.{charge_of-elsewhere}
 use Rattle.snap_call.specs.Promised.{IsGuarding}
 
 -- what is true of the namespaces and of what stands on them
 good_spacing : (s : State) (ns : List Namespace) → Good s → AllByRecursion (IsGuarding ns s.records) s.leases → ((place : ℕ) → place < length ns → Covers (limit_at place ns) (charge_of place s.records))
-    → ((place : ℕ) → place < length ns → is_limit (limit_at place ns) ≡ true) → AllByRecursion (λ n. length n.name ≤ 255) ns → have_distinct_names ns ≡ true
+    → ((place : ℕ) → place < length ns → is_limit (limit_at place ns) ≡ true) → AllByRecursion (λ n. length n.name ≤ 255) ns → have_distinct_names ns ≡ true → AllByRecursion (λ n. is_space n ≡ true) ns → length ns ≤ most_namespaces
     → AllByRecursion (λ r. is_taken_at r.namespace ns ≡ true) s.records → Good (spacing s ns)
-good_spacing s ns good leased within limits short distinct placed = record {
+good_spacing s ns good leased within limits short distinct spaces few placed = record {
   root = good.root;
   promised = record {
     parents = good.promised.parents;
@@ -38,15 +39,20 @@ good_spacing s ns good leased within limits short distinct placed = record {
     chains = good.promised.chains;
   };
   named_once = good.named_once;
+  lease_names = good.lease_names;
+  lease_keys = good.lease_keys;
   limits = limits;
   short = short;
   distinct = distinct;
+  spaces = spaces;
+  few_spaces = few;
   placed = placed;
   sorted = good.sorted;
   ids = good.ids;
   numbered = good.numbered;
   rising = good.rising;
   fewer = good.fewer;
+  formed = all_next s good;
   few_slots = good.few_slots;
   slots = good.slots;
   open_slots = good.open_slots;
@@ -67,7 +73,7 @@ namespace_parts n formed =
     (q.0, leb-true (length n.name) 255 q.1, h.1)
 
 -- one that is new, at the first free place
-module _ (s : State) (n : Namespace) (good : Good s) (formed : is_namespace n ≡ true) (new : place_of n.name s.namespaces ≡ None) where
+module _ (s : State) (n : Namespace) (good : Good s) (formed : is_namespace n ≡ true) (new : place_of n.name s.namespaces ≡ None) (room : count_by is_taken s.namespaces < most_namespaces) where
   abbrev ns : List Namespace
   ns = s.namespaces
 
@@ -106,6 +112,8 @@ module _ (s : State) (n : Namespace) (good : Good s) (formed : is_namespace n �
       ])
       (all-with (λ m. length m.name ≤ 255) n ns parts.1 good.short)
       (distinct-with n ns parts.0 new good.distinct)
+      (all-with (λ m. is_space m ≡ true) n ns (or_left (is_namespace n) (not (is_taken n) && (n.limit.blocks == 0) && (n.limit.inodes == 0)) formed) good.spaces)
+      (few-with most_namespaces n ns good.few_spaces room)
       (all-map (λ r. is_taken_at r.namespace ns ≡ true) (λ r. is_taken_at r.namespace ts ≡ true) (λ r taken. taken-with r.namespace n ns taken) s.records good.placed)
 
 neither : (a b : Bool) → (a || b) ≡ false → (a ≡ false) × (b ≡ false)
@@ -154,5 +162,7 @@ module _ (s : State) (namespace : Bytes) (place : ℕ) (good : Good s) (named : 
       ])
       (all-without_namespace (λ m. length m.name ≤ 255) place old (omega arith) good.short)
       (distinct-without place old good.distinct)
+      (all-without_namespace (λ m. is_space m ≡ true) place old refl good.spaces)
+      (omega (arith, length-without_namespace place old, good.few_spaces))
       (all-map (λ r. (r.namespace ≢ place) × (is_taken_at r.namespace old ≡ true)) (λ r. is_taken_at r.namespace left ≡ true) (λ r h. taken-without r.namespace place old h.0 ∙ h.1) s.records
       (all-both (λ r. r.namespace ≢ place) (λ r. is_taken_at r.namespace old ≡ true) s.records elsewhere good.placed))

@@ -1,5 +1,5 @@
 -- What a sweep keeps true of the state, and what stays as it is.
-use Rattle.std.proofs.Common.{◌≡◌, ◌≢◌, ℕ, ◌<◌, Bool, true, false, true≢false, not, List, Option, Some, None, IsSome, refl, sym, ap, ◌∙◌, subst, arith}
+use Rattle.std.proofs.Common.{◌≡◌, ◌≢◌, ℕ, ◌+◌, ◌<◌, Bool, true, false, true≢false, not, List, Option, Some, None, IsSome, refl, sym, ap, ◌∙◌, subst, arith}
 use Rattle.std.specs.List.{AllByRecursion, list_any}
 use Rattle.std.specs.Option.{option_map_or}
 use Rattle.std.specs.Prelude.{◌==◌, ◌&&◌, bytes_eq, find}
@@ -8,9 +8,9 @@ use Rattle.std.proofs.lemmas.Slice.Eq.{bytes_eq-Decides}
 use Rattle.snap_usage.specs.declared.usage.Usage.{Usage}
 use Rattle.snap_usage.specs.Counted.{Covers, no_usage}
 use Rattle.snap_ledger.specs.States.{plus, minus}
-use Rattle.snap_lease.specs.Lease.{Lease, NamesOnce, is_of, is_live, does_name}
+use Rattle.snap_lease.specs.Lease.{Lease, NamesOnce, is_lease, is_of, is_live, does_name}
 use Rattle.snap_lease.specs.Leases.{guards, is_guarded_at, has_ended, without_ended}
-use Rattle.snap_lease.proofs.ListLemmas.{all-filter}
+use Rattle.snap_lease.proofs.ListLemmas.{all-filter, IsDistinct-filter}
 use Rattle.snap_record.specs.Labels.{Bytes}
 use Rattle.snap_record.specs.declared.record.Content.{Content}
 use Rattle.snap_record.specs.declared.record.Content.TheVariants.{View, Active, Committed}
@@ -21,7 +21,8 @@ use Rattle.snap_call.specs.declared.state.State.{State}
 use Rattle.snap_call.specs.Records.{is_named, is_active, is_committed, has_slot, is_slot, record_at, active_at, committed_at, charge_of, charge_at, open_count, HasLowSlot, AreApart}
 use Rattle.snap_call.specs.State.{place_of, limit_at, is_taken_at, ancestors, most_ancestors}
 use Rattle.snap_call.specs.Reached.{is_reached, is_swept, swept}
-use Rattle.snap_call.specs.Good.{IsShown, Good}
+use Rattle.snap_call.specs.Forms.{is_key}
+use Rattle.snap_call.specs.Good.{IsFormed, IsShown, Good}
 use Rattle.snap_call.specs.Step.{refused, swept_at, sweep_at, sweep}
 use Rattle.snap_call.proofs.Lengths.{length-filtered}
 use Rattle.snap_call.proofs.Lists.{all-each, all-map, all-both, all-any, all-kept, pairwise-filter, find-all, find-filter, find-passes, committed-parts, committed-from}
@@ -29,6 +30,7 @@ use Rattle.snap_call.proofs.InOrder.{own_found, sorted-filter}
 use Rattle.snap_call.proofs.Chains.{HasParent, IsRising, NamesStand, chain, OnParent, on_parent, on_parent-map, KeepsFor, AreOn, keeps-ancestors}
 use Rattle.snap_call.proofs.Sums.{Covers-plus, charge_of-elsewhere, charge_of-filter, minus-plus, plus-none}
 use Rattle.snap_call.proofs.Counts.{open_count-filter}
+use Rattle.snap_call.proofs.Formed.{all_next}
 use Rattle.snap_call.proofs.Slots.{active_at-filter, charge_at-filter}
 use Rattle.snap_call.proofs.Reaching.{IsReached, reached_by, reached-above, root-above}
 use Rattle.snap_call.proofs.Keeping.{AreNamed, all_deep, chains_on, covers_gone, good_chains, good_counted, leases_on, parents_on, place_of-below, rising_on, same_name, shown_on, within_after}
@@ -253,15 +255,20 @@ module _ (s : State) (namespace : Bytes) (place moment : ℕ) where
           chains = chains_on P rs ts keeps s.ancestors ts on chained;
         };
         named_once = all-filter NamesOnce (λ l. not (has_ended namespace moment l)) s.leases good.named_once;
+        lease_names = all-filter (λ l. is_key l.name ≡ true) (λ l. not (has_ended namespace moment l)) s.leases good.lease_names;
+        lease_keys = IsDistinct-filter (λ l. is_lease l.namespace l.name) (λ l. not (has_ended namespace moment l)) s.leases good.lease_keys;
         limits = good.limits;
         short = good.short;
         distinct = good.distinct;
+        spaces = good.spaces;
+        few_spaces = good.few_spaces;
         placed = all-filter (λ t. is_taken_at t.namespace ns ≡ true) stays rs good.placed;
         sorted = sorted-filter stays rs good.sorted;
         ids = pairwise-filter stays (λ t u. t.id ≢ u.id) rs good.ids;
         numbered = all-filter (λ t. t.id < s.next_id) stays rs good.numbered;
         rising = rising_on P rs ts keeps ts on (all-filter (IsRising rs) stays rs good.rising);
         fewer = omega (arith, length-filtered stays rs, good.fewer);
+        formed = all-filter (IsFormed (s.entries + 1)) stays rs (all_next s good);
         few_slots = good.few_slots;
         slots = pairwise-filter stays AreApart rs good.slots;
         open_slots = all-filter (λ t. HasLowSlot s.slots t.content) stays rs good.open_slots;

@@ -9,7 +9,7 @@ use Rattle.snap_call.specs.declared.config.Config.{Config}
 use Rattle.snap_call.specs.declared.config.ConfigField.{ConfigField}
 use Rattle.snap_call.specs.declared.config.ConfigField.TheVariants as fields
 use Rattle.snap_call.specs.declared.config.Namespace.{Namespace}
-use Rattle.snap_call.specs.Namespaces.{has_name, most_namespaces}
+use Rattle.snap_call.specs.Namespaces.{has_name, is_taken, most_namespaces}
 use Rattle.snap_call.specs.Records.{max_slots, max_journal, most_ancestors}
 
 -- 1 to `most` bytes, none of them NUL
@@ -57,24 +57,52 @@ is_layer_limit inodes = nat_le 1 inodes && nat_le inodes most_inodes
 abbrev pub is_ancestor_limit : ℕ → Bool
 is_ancestor_limit most = nat_le 1 most && nat_le most most_ancestors
 
--- the part of a configuration is well-formed; there are at most 4096 namespaces, with distinct names
-abbrev pub has_form : Config → ConfigField → Bool
-has_form c fields.Root = is_root_text c.root
-has_form c fields.Namespaces = list_all is_namespace c.namespaces && nat_le (length c.namespaces) most_namespaces && have_distinct_names c.namespaces
-has_form c fields.Slots = is_slots c.slots
-has_form c fields.Journal = nat_le c.journal max_journal
-has_form c fields.FirstId = nat_le 1 c.first_id
-has_form c fields.LayerInodes = is_layer_limit c.layer_inodes
-has_form c fields.Ancestors = is_ancestor_limit c.ancestors
+-- what may stand at a place of a saved store: a namespace, or nothing, which has no name and no limit
+abbrev pub is_space : Namespace → Bool
+is_space n = is_namespace n || (not (is_taken n) && (n.limit.blocks == 0) && (n.limit.inodes == 0))
+
+-- there are at most 4096 namespaces, with distinct names, where each of them may stand in a store
+abbrev pub are_spaces_where : Bool → List Namespace → Bool
+are_spaces_where each ns = each && nat_le (length ns) most_namespaces && have_distinct_names ns
+
+-- each namespace passes the test, there are at most 4096, and their names are distinct
+abbrev pub are_spaces_by : (Namespace → Bool) → List Namespace → Bool
+are_spaces_by is ns = are_spaces_where (list_all is ns) ns
+
+-- the part of a configuration is well-formed; of its namespaces `spaces` says so
+abbrev pub has_form : Bool → Config → ConfigField → Bool
+has_form spaces c fields.Root = is_root_text c.root
+has_form spaces c fields.Namespaces = spaces
+has_form spaces c fields.Slots = is_slots c.slots
+has_form spaces c fields.Journal = nat_le c.journal max_journal
+has_form spaces c fields.FirstId = nat_le 1 c.first_id
+has_form spaces c fields.LayerInodes = is_layer_limit c.layer_inodes
+has_form spaces c fields.Ancestors = is_ancestor_limit c.ancestors
 
 -- the parts of a configuration, in their order
 abbrev pub config_fields : List ConfigField
 config_fields = fields.Root ∷ fields.Namespaces ∷ fields.Slots ∷ fields.Journal ∷ fields.FirstId ∷ fields.LayerInodes ∷ fields.Ancestors ∷ []
 
+-- each part is well-formed
+abbrev pub is_config_with : Bool → Config → Bool
+is_config_with spaces c = list_all (has_form spaces c) config_fields
+
+-- the first part that is malformed
+abbrev pub bad_field_with : Bool → Config → Option ConfigField
+bad_field_with spaces c = find (λ field. not (has_form spaces c field)) config_fields
+
 -- what a store can be opened with: each part is well-formed
 abbrev pub is_config : Config → Bool
-is_config c = list_all (has_form c) config_fields
+is_config c = is_config_with (are_spaces_by is_namespace c.namespaces) c
 
 -- the first part that is malformed
 abbrev pub bad_field : Config → Option ConfigField
-bad_field c = find (λ field. not (has_form c field)) config_fields
+bad_field c = bad_field_with (are_spaces_by is_namespace c.namespaces) c
+
+-- what a saved store can be opened with: the same, but some of its places may be free
+abbrev pub is_saved_config : Config → Bool
+is_saved_config c = is_config_with (are_spaces_by is_space c.namespaces) c
+
+-- the first part that is malformed
+abbrev pub bad_saved_field : Config → Option ConfigField
+bad_saved_field c = bad_field_with (are_spaces_by is_space c.namespaces) c

@@ -17,3 +17,4 @@ pub mod Journal
 pub mod Holder
 pub mod Totals
 pub mod Saved
+pub mod SavedLeases

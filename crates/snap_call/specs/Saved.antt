@@ -1,5 +1,5 @@
 -- A snapshot as it is saved, and a state that it is put back into. Saved snapshots come in the order of their ids, so that each finds its parent among those before it.
-use Rattle.std.specs.Prelude.{◌≡◌, ℕ, ◌+◌, ◌<◌, ◌≤◌, true, false, ◌&&◌, nat_le, nat_lt, List, [], ◌∷◌, None, Result, Ok, Err}
+use Rattle.std.specs.Prelude.{◌≡◌, ℕ, zero, suc, ◌+◌, ◌<◌, ◌≤◌, ◌==◌, Bool, true, false, ◌&&◌, nat_le, nat_lt, List, [], ◌∷◌, ◌++◌, map, filter, None, Result, Ok, Err}
 use Rattle.std.specs.List.{list_any}
 use Rattle.snap_usage.specs.declared.usage.Usage.{Usage}
 use Rattle.snap_usage.specs.Counted.{count_of, covers, no_usage}
@@ -9,17 +9,18 @@ use Rattle.snap_record.specs.Records.{usage_of}
 use Rattle.snap_record.specs.declared.record.Content.{Content}
 use Rattle.snap_record.specs.declared.record.Content.TheVariants as contents
 use Rattle.snap_record.specs.declared.record.Record.{Record}
+use Rattle.snap_call.specs.declared.config.Namespace.{Namespace}
 use Rattle.snap_call.specs.declared.refusal.Refusal.{Refusal}
 use Rattle.snap_call.specs.declared.refusal.Refusal.TheVariants.{BadArgument, TooManyActives, NumbersSpent}
 use Rattle.snap_call.specs.declared.saved.Saved.{Saved}
 use Rattle.snap_call.specs.declared.saved.SavedContent.{SavedContent}
 use Rattle.snap_call.specs.declared.saved.SavedContent.TheVariants.{View, Active, Committed}
 use Rattle.snap_call.specs.declared.state.State.{State}
-use Rattle.snap_call.specs.Good.{IsShown}
+use Rattle.snap_call.specs.Good.{IsFormed, IsShown}
 use Rattle.snap_call.specs.Promised.{IsUsageCounted}
 use Rattle.snap_call.specs.Records.{charge_of, has_key, is_slot, active_at, with_record}
 use Rattle.snap_call.specs.Results.{◌>>=◌}
-use Rattle.snap_call.specs.State.{limit_at, is_taken_at, is_base, is_too_deep, over_limit, shown_layers}
+use Rattle.snap_call.specs.State.{limit_at, name_at, is_taken_at, is_base, is_too_deep, over_limit, shown_layers}
 use Rattle.snap_call.specs.Step.{Test, must, must_not, tested, one, place_for}
 
 -- what the snapshot holds, on a parent in the namespace at a place: a view shows the layers of its committed ancestors, and a committed one's usage is counted over its layer
@@ -48,9 +49,9 @@ with_saved s r = record s { records = with_record r s.records; next_id = r.id + 
 abbrev pub tests_answer : List Test → Result Unit Refusal
 tests_answer tests = tested Err tests (Ok tt)
 
--- its id comes after all others, and no entry that is to come made or changed it
+-- its id comes after all others, and of the entries so far one made it, and this or a later one last changed it
 abbrev pub numbers_answer : State → Saved → Result Unit Refusal
-numbers_answer s saved = tests_answer (must (nat_le s.next_id saved.id) NumbersSpent ∷ must (nat_le saved.created s.entries && nat_le saved.updated s.entries) NumbersSpent ∷ [])
+numbers_answer s saved = tests_answer (must (nat_le s.next_id saved.id) NumbersSpent ∷ must (nat_le 1 saved.created && nat_le saved.created saved.updated && nat_le saved.updated s.entries) NumbersSpent ∷ [])
 
 -- an active one's slot is one of the store's and is free, and it is charged at least 1/1
 abbrev pub slot_answer : State → SavedContent → Result Unit Refusal
@@ -84,8 +85,49 @@ pub record CanPutBack (s : State) (r : Record) : Type 0 where
   pub base : is_base r.namespace r.parent s.records ≡ true
   pub deep : is_too_deep s.ancestors r.namespace r.parent s.records ≡ false
   pub above : s.next_id ≤ r.id
-  pub known : (r.created ≤ s.entries) × (r.updated ≤ s.entries)
+  pub formed : IsFormed s.entries r
   pub slot : HasFreeSlot s r.content
   pub shown : IsShown s.records r.namespace r.parent r.content
   pub counted : IsUsageCounted r.content
   pub fits : covers (limit_at r.namespace s.namespaces) (plus (charge_of r.namespace s.records) (usage_of r.content)) ≡ true
+
+-- ---- what is saved of a state
+
+-- what is saved of what a snapshot holds
+abbrev pub saved_content : Content → SavedContent
+saved_content (contents.View layers) = View
+saved_content (contents.Active slot charged) = Active slot charged
+saved_content (contents.Committed layer usage) = Committed layer
+
+-- what is saved of its record
+abbrev pub saved_of : List Namespace → Record → Saved
+saved_of ns r = record { namespace = name_at r.namespace ns; key = r.key; parent = r.parent; id = r.id; labels = r.labels; created = r.created; updated = r.updated; content = saved_content r.content }
+
+-- the record has this id
+abbrev pub has_id : ℕ → Record → Bool
+has_id id r = r.id == id
+
+-- the records with ids below n, in the order of their ids
+unfoldable pub by_id : ℕ → List Record → List Record
+by_id zero rs = []
+by_id (suc n) rs = by_id n rs ++ filter (has_id n) rs
+
+-- the snapshots of a state as they are saved, in the order of their ids
+abbrev pub saved_records : State → List Saved
+saved_records s = map (saved_of s.namespaces) (by_id s.next_id s.records)
+
+-- the state with all of them put back, one after another, or the first refusal
+unfoldable pub put_all_back : State → List Saved → Result State Refusal
+put_all_back s [] = Ok s
+put_all_back s (saved ∷ more) = do
+  next ← put_back s saved
+  put_all_back next more
+
+-- the state without snapshots and leases, whose first snapshot may have the id 1
+abbrev pub without_snapshots : State → State
+without_snapshots s = record s { records = []; leases = []; next_id = 1 }
+
+-- an active snapshot is charged at least 1/1
+abbrev pub IsChargedOne : Content → Type 0
+IsChargedOne (contents.Active slot charged) = covers charged one ≡ true
+IsChargedOne content = Unit {0}

@@ -1,9 +1,8 @@
-ghost use Rattle.std.specs.Prelude.{◌≡◌, None, true, ◌↔◌, ◌&&◌, nat_le, length};
-ghost use Rattle.std.specs.List.{list_all};
-ghost use Rattle.snap_call.specs.Forms.{bad_field, have_distinct_names, is_ancestor_limit, is_config, is_layer_limit, is_namespace};
-ghost use Rattle.snap_call.specs.Namespaces.{is_taken, most_namespaces};
+ghost use Rattle.std.specs.Prelude.{◌≡◌, None, true, ◌↔◌};
+ghost use Rattle.snap_call.specs.Forms.{are_spaces_where, bad_field, bad_field_with, bad_saved_field, is_config, is_config_with, is_saved_config};
+ghost use Rattle.snap_call.specs.Namespaces.{is_taken};
 
-use crate::forms::{are_namespaces, has_distinct_names, is_slots};
+use crate::forms::{are_namespaces, are_spaces, has_distinct_names, is_slots};
 use crate::limits::{MAX_ANCESTORS, MAX_JOURNAL, MAX_NAMESPACES};
 use snap_mount::is_root_text;
 use snap_path::limits::MAX_LAYER_INODES;
@@ -25,7 +24,8 @@ pub struct Namespace {
 pub struct Config {
     /// The directory that the snapshots' directories lie in, as mount descriptions name it.
     pub root: Text,
-    /// At most 4096 namespaces with distinct names.
+    /// At most 4096 namespaces with distinct names. A saved store's may have places that are free, without a name
+    /// and with the limit 0/0.
     pub namespaces: Sequence<Namespace>,
     /// How many snapshots may be open at one time, all namespaces together: 1 to 4096.
     pub slots: u64,
@@ -73,41 +73,17 @@ pub enum ConfigField {
     Ancestors,
 }
 
-/// Whether the namespaces are well-formed, are no more than a store can have, and have distinct names.
-fn are_formed(namespaces: &[Namespace]) -> bool
-    ensures { result ≡ (list_all is_namespace namespaces.now && nat_le (length namespaces.now) most_namespaces && have_distinct_names namespaces.now) }
-{
-    are_namespaces(namespaces)
-        && namespaces.len() <= MAX_NAMESPACES
-        && has_distinct_names(namespaces)
-}
-
-/// Whether a layer can have a limit of `inodes` inodes.
-fn is_layer_limit(inodes: u64) -> bool
-    ensures { result ≡ is_layer_limit inodes }
-{
-    1 <= inodes && inodes <= MAX_LAYER_INODES as u64
-}
-
-/// Whether a snapshot can be allowed `most` committed ancestors.
-fn is_ancestor_limit(most: u64) -> bool
-    ensures { result ≡ is_ancestor_limit most }
-{
-    1 <= most && most <= MAX_ANCESTORS
-}
-
 impl Config {
-    /// The first of its parts that is malformed; none where a store can be opened with it. Takes no
-    /// memory. Its cost grows with the bytes of the root and of the names, and with the square of the number
-    /// of namespaces.
-    pub fn bad_field(&self) -> Option<ConfigField>
-        ensures field { result ≡ bad_field self.now }
-        ensures valid { (result ≡ None) ↔ (is_config self.now ≡ true) }
+    // The first of its parts that is malformed, where each of its namespaces may stand in a store or not.
+    fn bad_part(&self, each: bool) -> Option<ConfigField>
+        ensures field { result ≡ bad_field_with (are_spaces_where each self.now.namespaces) self.now }
+        ensures valid { (result ≡ None) ↔ (is_config_with (are_spaces_where each self.now.namespaces) self.now ≡ true) }
     {
         if !is_root_text(self.root.as_str()) {
             return Some(ConfigField::Root);
         }
-        if !are_formed(self.namespaces.as_slice()) {
+        let namespaces = self.namespaces.as_slice();
+        if !each || namespaces.len() > MAX_NAMESPACES || !has_distinct_names(namespaces) {
             return Some(ConfigField::Namespaces);
         }
         if !is_slots(self.slots) {
@@ -119,19 +95,41 @@ impl Config {
         if self.first_id == 0 {
             return Some(ConfigField::FirstId);
         }
-        if !is_layer_limit(self.layer_inodes) {
+        if self.layer_inodes == 0 || self.layer_inodes > MAX_LAYER_INODES as u64 {
             return Some(ConfigField::LayerInodes);
         }
-        if !is_ancestor_limit(self.ancestors) {
+        if self.ancestors == 0 || self.ancestors > MAX_ANCESTORS {
             return Some(ConfigField::Ancestors);
         }
         None
     }
 
+    /// The first of its parts that is malformed; none where a store can be opened with it. Takes no
+    /// memory. Its cost grows with the bytes of the root and of the names, and with the square of the number
+    /// of namespaces.
+    pub fn bad_field(&self) -> Option<ConfigField>
+        ensures field { result ≡ bad_field self.now }
+        ensures valid { (result ≡ None) ↔ (is_config self.now ≡ true) }
+    {
+        self.bad_part(are_namespaces(self.namespaces.as_slice()))
+    }
+
+    /// The first of its parts that is malformed; none where a saved store can be opened with it. Of its
+    /// namespaces some may be places that are free: without a name, and with the limit 0/0. Takes no memory.
+    /// Its cost is that of [`bad_field`](Self::bad_field).
+    pub fn bad_saved_field(&self) -> Option<ConfigField>
+        ensures field { result ≡ bad_saved_field self.now }
+        ensures valid { (result ≡ None) ↔ (is_saved_config self.now ≡ true) }
+    {
+        self.bad_part(are_spaces(self.namespaces.as_slice()))
+    }
+
     /// Whether a store can be opened with it. Takes no memory. Its cost is that of
     /// [`bad_field`](Self::bad_field).
     pub fn is_valid(&self) -> bool
-        ensures { result ≡ is_config self.now }
+        ensures valid { result ≡ is_config self.now }
+        // With what a store can be opened with, a saved one can be opened too.
+        ensures saved { is_config self.now ≡ true → is_saved_config self.now ≡ true }
     {
         self.bad_field().is_none()
     }

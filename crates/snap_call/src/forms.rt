@@ -1,7 +1,7 @@
 ghost use Rattle.std.specs.Prelude.{◌≡◌, ◌==◌};
 ghost use Rattle.std.specs.List.{list_any, list_all};
 ghost use Rattle.snap_call.specs.Namespaces.{has_name};
-ghost use Rattle.snap_call.specs.Forms.{is_text, is_key, is_parent, is_page, is_slots, is_start, is_limit, is_namespace, have_distinct_names};
+ghost use Rattle.snap_call.specs.Forms.{is_text, is_key, is_parent, is_page, is_slots, is_start, is_limit, is_namespace, is_space, have_distinct_names};
 
 use crate::config::Namespace;
 use crate::limits::{MAX_KEY_BYTES, MAX_LIMIT, MAX_NAMESPACE_BYTES, MAX_PAGE, MAX_SLOTS};
@@ -78,11 +78,27 @@ pub fn is_namespace(namespace: &Namespace) -> bool
     is_text(MAX_NAMESPACE_BYTES, namespace.name.as_str()) && is_limit(namespace.limit)
 }
 
-/// Whether each namespace has a name and a limit of their forms.
+/// Whether it is a namespace, or stands at a place that is free for one: without a name, and with the limit
+/// 0/0.
+fn is_space(namespace: &Namespace) -> bool
+    ensures { result ≡ is_space namespace.now }
+{
+    let limit = namespace.limit;
+    is_namespace(namespace) || (!namespace.is_taken() && limit.blocks == 0 && limit.inodes == 0)
+}
+
+/// Whether each of them is a namespace.
 pub(crate) fn are_namespaces(namespaces: &[Namespace]) -> bool
     ensures { result ≡ list_all is_namespace namespaces.now }
 {
     namespaces.iter().all(is_namespace)
+}
+
+/// Whether each of them is a namespace, or stands at a place that is free for one.
+pub(crate) fn are_spaces(places: &[Namespace]) -> bool
+    ensures { result ≡ list_all is_space places.now }
+{
+    places.iter().all(is_space)
 }
 
 /// Whether it is a namespace of this name.

@@ -14,38 +14,12 @@ pub(crate) fn is_same_labels(a: &Labels, b: &Labels) -> bool
     *a == *b
 }
 
-pub(crate) fn is_same_chain(a: &Sequence<u32>, b: &Sequence<u32>) -> bool
-    ensures { IsTrue result ↔ (a.now ≡ b.now) }
-{
-    *a == *b
-}
-
-pub(crate) fn is_same_lease(a: &Option<Text>, b: &Option<Text>) -> bool
-    ensures { IsTrue result ↔ (a.now ≡ b.now) }
-{
-    match (a, b) {
-        (None, None) => true,
-        (Some(a), Some(b)) => *a == *b,
-        _ => false,
-    }
-}
-
 fn is_same_given_labels(a: &Option<Labels>, b: &Option<Labels>) -> bool
     ensures { IsTrue result ↔ (a.now ≡ b.now) }
 {
     match (a, b) {
         (None, None) => true,
         (Some(a), Some(b)) => is_same_labels(a, b),
-        _ => false,
-    }
-}
-
-fn is_same_moment(a: Option<u64>, b: Option<u64>) -> bool
-    ensures { IsTrue result ↔ (a ≡ b) }
-{
-    match (a, b) {
-        (None, None) => true,
-        (Some(a), Some(b)) => a == b,
         _ => false,
     }
 }
@@ -101,7 +75,7 @@ pub(crate) fn is_same_call(a: &Call, b: &Call) -> bool
     ensures { IsTrue result ↔ (a.now ≡ b.now) }
 {
     match a {
-        Call::Session => is_session(b),
+        Call::Session => matches!(b, Call::Session),
         Call::Prepare {
             namespace,
             key,
@@ -168,15 +142,6 @@ pub(crate) fn is_same_call(a: &Call, b: &Call) -> bool
     }
 }
 
-fn is_session(call: &Call) -> bool
-    ensures { IsTrue result ↔ (calls.Session ≡ call.now) }
-{
-    match call {
-        Call::Session => true,
-        _ => false,
-    }
-}
-
 fn is_prepare(call: &Call, namespace: &Text, key: &Text, parent: &Text, labels: &Labels) -> bool
     ensures { IsTrue result ↔ (calls.Prepare namespace.now key.now parent.now labels.now ≡ call.now) }
 {
@@ -232,11 +197,7 @@ fn is_commit(
             lease: l,
             labels: t,
         } => {
-            slot == *s
-                && id == *i
-                && *name == *n
-                && is_same_lease(lease, l)
-                && is_same_given_labels(labels, t)
+            slot == *s && id == *i && *name == *n && *lease == *l && is_same_given_labels(labels, t)
         }
         _ => false,
     }
@@ -388,7 +349,7 @@ fn is_lease_create(call: &Call, namespace: &Text, lease: &Text, until: Option<u6
             namespace: n,
             lease: l,
             until: u,
-        } => *namespace == *n && *lease == *l && is_same_moment(until, *u),
+        } => *namespace == *n && *lease == *l && until == *u,
         _ => false,
     }
 }
@@ -455,9 +416,9 @@ pub(crate) fn is_same_reply(a: &Reply, b: &Reply) -> bool
                 slot: s,
                 chain: c,
             },
-        ) => *id == *i && *slot == *s && is_same_chain(chain, c),
+        ) => *id == *i && *slot == *s && *chain == *c,
         (Reply::Viewed { id, chain }, Reply::Viewed { id: i, chain: c }) => {
-            *id == *i && is_same_chain(chain, c)
+            *id == *i && *chain == *c
         }
         (Reply::Charged { now: a }, Reply::Charged { now: b }) => *a == *b,
         (Reply::Trimmed, Reply::Trimmed) => true,

@@ -1,5 +1,5 @@
 ghost use Rattle.std.specs.Prelude.{◌≡◌, ◌<◌, ◌+◌, ◌^◌, ◌||◌, count_by, length, true, false, None, Some, IsSome, OnOk, OnErr, IfOk};
-ghost use Rattle.snap_call.specs.Forms.{is_config, is_namespace};
+ghost use Rattle.snap_call.specs.Forms.{is_config, is_namespace, is_saved_config};
 ghost use Rattle.snap_call.specs.Good.{Good};
 ghost use Rattle.snap_call.specs.Promised.{Promised};
 ghost use Rattle.snap_call.specs.Records.{active_at, committed_as, has_key, has_records, info_page, with_record, without_slot};
@@ -79,9 +79,10 @@ impl State {
     /// sessions and entries. Takes memory for a look-up of the namespaces; fails only where it is refused.
     pub fn opening(alloc: Global, config: Config) -> Result<State, AllocError>
         ensures opening { IfOk result (λ s. s ≡ opening config) }
-        // What is true of it where a store can be opened with the configuration, and what each allowed
-        // call keeps.
-        ensures good { is_config config ≡ true → Good (opening config) }
+        // What is true of it where a store, a saved or a new one, can be opened with the configuration, and
+        // what each allowed call keeps.
+        ensures good { is_saved_config config ≡ true → Good (opening config) }
+        ensures new { is_config config ≡ true → Good (opening config) }
         ensures keeps { (s : State) (call : Call) (given : Given) → Good s → IsAllowed s call given → Good (step s call given).0 }
         ensures promised { (s : State) → Good s → Promised s }
     {

@@ -29,16 +29,6 @@ pub struct Sweep {
 }
 
 impl Sweep {
-    fn new(alloc: Global) -> Sweep
-        ensures removed { result.removed ≡ [] }
-        ensures freed { result.freed ≡ no_usage }
-    {
-        Sweep {
-            removed: Sequence::new(alloc),
-            freed: Usage::ZERO,
-        }
-    }
-
     // Takes the snapshot away too.
     fn add(&mut self, snapshot: &Record) -> Result<(), AllocError>
         requires blocks { self.old.freed.blocks + (usage_of snapshot.now.content).blocks < 2 ^ 64 }
@@ -154,7 +144,10 @@ fn gather(
     ensures removed { IfOk result (λ w. w.removed ≡ map (λ r. r.key) (marked place (map (λ r. r.now) records.now) marks.now)) }
     ensures freed { IfOk result (λ w. w.freed ≡ charge_of place (marked place (map (λ r. r.now) records.now) marks.now)) }
 {
-    let mut sweep = Sweep::new(alloc);
+    let mut sweep = Sweep {
+        removed: Sequence::new(alloc),
+        freed: Usage::ZERO,
+    };
     for (at, snapshot) in records.iter().enumerate() {
         if snapshot.namespace == place && marks[at] {
             sweep.add(snapshot)?;

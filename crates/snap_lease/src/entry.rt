@@ -9,7 +9,7 @@ ghost use Rattle.snap_lease.specs.Told.{told};
 
 use crate::live::LiveNames;
 use crate::numbers::LeaseNumbers;
-use crate::told::LeaseInfo;
+use crate::told::{LeaseCopy, LeaseInfo};
 use indexmap::IndexMap;
 use snap_counts::NamespaceCounts;
 use std::alloc::{AllocError, Global};
@@ -71,6 +71,19 @@ impl LeaseEntry {
             name: self.name.clone()?,
             until: self.until,
             names: self.copy_names(alloc)?,
+        })
+    }
+
+    /// A copy of it.
+    pub(crate) fn copy(&self, alloc: Global) -> Result<LeaseCopy, AllocError>
+        ensures { IfOk result (λ copy. copy ≡ self.now) }
+    {
+        let LeaseInfo { name, until, names } = self.info(alloc)?;
+        Ok(LeaseCopy {
+            namespace: self.namespace.clone()?,
+            name,
+            until,
+            names,
         })
     }
 

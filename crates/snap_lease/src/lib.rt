@@ -21,4 +21,4 @@ pub use error::{LeaseError, LeaseNameError};
 pub use list::Leases;
 pub use live::LiveNames;
 pub use sweep::sweep_set;
-pub use told::LeaseInfo;
+pub use told::{LeaseCopy, LeaseInfo};

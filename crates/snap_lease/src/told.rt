@@ -1,6 +1,6 @@
 //! What is told of leases.
 ghost use Rattle.std.specs.Prelude.{◌≡◌, map, string_bytes, IfOk};
-ghost use Rattle.snap_lease.specs.Told.{told_lease, told_leases};
+ghost use Rattle.snap_lease.specs.Told.{told, told_lease, told_leases};
 
 use crate::list::Leases;
 use std::alloc::AllocError;
@@ -46,7 +46,43 @@ impl LeaseInfo {
     }
 }
 
+/// A copy of a lease, with its namespace. Contracts see it as the lease.
+#[derive(Drop)]
+pub struct LeaseCopy {
+    /// The name of its namespace.
+    pub namespace: String,
+    /// Its name.
+    pub name: String,
+    /// Its last moment, if it has one.
+    pub until: Option<u64>,
+    /// The snapshots that it names, in the order in which they were added.
+    pub names: Vec<String>,
+}
+
+impl Model for LeaseCopy {
+    ghost use Rattle.std.specs.Prelude.{map, string_bytes};
+    ghost use Rattle.snap_lease.specs.Lease.{Lease};
+
+    ghost Value = { Lease };
+
+    ghost view = { λ c. record { namespace = string_bytes c.namespace; name = string_bytes c.name; until = c.until; names = map string_bytes c.names.items } };
+}
+
 impl Leases {
+    /// Copies of the leases of all namespaces, in the order in which they were created.
+    ///
+    /// Takes memory for the list and for copies of the texts, and its one error is want of that memory. Its cost grows with
+    /// the number of leases, and with the texts that it copies.
+    pub fn copies(&self) -> Result<Vec<LeaseCopy>, AllocError>
+        ensures { IfOk result (λ copies. copies.items ≡ self.now) }
+    {
+        let mut copies = Vec::new(self.alloc);
+        for lease in self.list.values() {
+            copies.push(lease.copy(self.alloc)?)?;
+        }
+        Ok(copies)
+    }
+
     /// What is told of each lease of the namespace, live or ended, in the order in which they were created, as
     /// containerd's `leases.Manager.List` and `ListResources` give them.
     ///

@@ -67,24 +67,24 @@ cases_if P true x y f g = f refl
 cases_if P false x y f g = g refl
 
 -- the hands are those of the open slots of these records
-abbrev AgreeAll : List (Option HandValue) → List Record → Type 0
+abbrev pub AgreeAll : List (Option HandValue) → List Record → Type 0
 AgreeAll hands rs = (slot : ℕ) → AgreesAt slot rs (hand_at slot hands) (active_at slot rs)
 
 -- each record has its ancestors
-abbrev AreChained : List Record → Type 0
+abbrev pub AreChained : List Record → Type 0
 AreChained rs = AllByRecursion (λ r. IsSome (chain most_ancestors rs r)) rs
 
 -- ---- records that keep the committed ones
 
 -- those that are active have the same ancestors
-abbrev AreSame : List Record → List Record → Type 0
+abbrev pub AreSame : List Record → List Record → Type 0
 AreSame rs ts = (k : ℕ) (r : Record) → active_at k rs ≡ Some r → layers_of (ancestors r.namespace r.parent ts) ≡ layers_of (ancestors r.namespace r.parent rs)
 
 same_here : (rs : List Record) → AreSame rs rs
 same_here rs k r e = refl
 
 -- where all committed records are kept
-same_where : (rs ts : List Record) → AreChained rs → Keeps rs ts → AreSame rs ts
+pub same_where : (rs ts : List Record) → AreChained rs → Keeps rs ts → AreSame rs ts
 same_where rs ts chained keeps k r e =
     ap layers_of (keeps-ancestors Every rs ts (every rs ts keeps) r.namespace r.parent (on_parent Every r.namespace r.parent tt) (active_at-all (λ t. IsSome (chain most_ancestors rs t)) k rs r e chained))
 
@@ -108,7 +108,7 @@ module _ (rs ts : List Record) (same_lowers : AreSame rs ts) where
       at (Some h) (Some r) e is = record { namespace = is.namespace; key = is.key; lowers = is.lowers ∙ sym (same_lowers k r e); slot = is.slot; id = is.id; usage = is.usage; covers = is.covers }
 
   -- one slot changes
-  agree_set : (slot : ℕ) (o : Option HandValue) (hands : List (Option HandValue)) → AgreeAll hands rs → slot < length hands → AgreesAt slot ts o (active_at slot ts)
+  pub agree_set : (slot : ℕ) (o : Option HandValue) (hands : List (Option HandValue)) → AgreeAll hands rs → slot < length hands → AgreesAt slot ts o (active_at slot ts)
       → ((k : ℕ) → k ≢ slot → active_at k ts ≡ active_at k rs) → AgreeAll (with_hand slot o hands) ts
   agree_set slot o hands agree low here others k =
       ⊎_elim
@@ -123,7 +123,7 @@ module _ (rs ts : List Record) (same_lowers : AreSame rs ts) where
   goes slot hands agree low none others = agree_set slot None hands agree low (subst (λ (x : Option Record). AgreesAt slot ts None x) (sym none) tt) others
 
   -- no slot changes
-  agree_on : (hands : List (Option HandValue)) → AgreeAll hands rs → ((k : ℕ) → active_at k ts ≡ active_at k rs) → AgreeAll hands ts
+  pub agree_on : (hands : List (Option HandValue)) → AgreeAll hands rs → ((k : ℕ) → active_at k ts ≡ active_at k rs) → AgreeAll hands ts
   agree_on hands agree same k = subst (λ (x : Option Record). AgreesAt k ts (hand_at k hands) x) (sym (same k)) (still_hand k (hand_at k hands) (agree k))
 
 -- ---- records with other labels

@@ -10,3 +10,8 @@ mod Opened
 mod Rounds
 pub mod Putting
 mod Running
+mod PutBack
+mod Whole
+mod Ending
+mod InTurn
+mod BackWorld

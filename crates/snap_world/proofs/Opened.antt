@@ -7,10 +7,11 @@ use Rattle.snap_call.specs.declared.config.Config.{Config}
 use Rattle.snap_call.specs.Forms.{is_config}
 use Rattle.snap_call.specs.State.{opening}
 use Rattle.snap_call.proofs.Kept.{good_opening}
+use Rattle.snap_call.proofs.Opening.{saved_config}
 use Rattle.snap_book.specs.Book.{BookValue}
 use Rattle.snap_world.specs.World.{AgreesAt, Fits, HandValue, hand_at, world_of}
 
-no_hand : (n slot : ℕ) → hand_at slot (replicate n None) ≡ None
+pub no_hand : (n slot : ℕ) → hand_at slot (replicate n None) ≡ None
 no_hand zero slot = refl
 no_hand (suc n) zero = refl
 no_hand (suc n) (suc slot) = no_hand n slot
@@ -21,8 +22,8 @@ not_false false h = absurd (h refl)
 
 opened_fits : (c : Config) → is_config c ≡ true → Fits (record { state = opening c; journal = []; opening = opening c; limit = c.journal; hands = replicate c.slots None })
 opened_fits c valid = record {
-  good = good_opening c valid;
-  began = record { good = good_opening c valid; sessions = refl };
+  good = good_opening c (saved_config c valid);
+  began = record { good = good_opening c (saved_config c valid); sessions = refl };
   replays = refl;
   places = length-replicate c.slots None;
   hands = λ slot. subst (λ (o : Option HandValue). AgreesAt slot [] o None) (sym (no_hand c.slots slot)) tt;

@@ -1,5 +1,5 @@
 -- A world after its next round has begun.
-use Rattle.std.proofs.Common.{◌≡◌, ℕ, [], List, Option, None, refl, sym, subst, OnOk, OnErr}
+use Rattle.std.proofs.Common.{◌≡◌, ℕ, [], List, Option, None, refl, sym, subst, arith, OnOk, OnErr}
 use Rattle.std.specs.Prelude.{Result, Ok, Err}
 use Rattle.snap_call.specs.declared.refusal.Refusal.{Refusal}
 use Rattle.snap_call.proofs.Keeping.{good_counters}
@@ -11,7 +11,7 @@ use Rattle.snap_world.specs.World.{Fits, HandValue, WorldValue, world_of}
 -- sessions are no part of what fits
 fits_without_sessions : (w : WorldValue) (journal : ℕ) → Fits w → Fits (reopened w journal)
 fits_without_sessions w journal fits =
-    let good = good_counters w.state 0 w.state.entries fits.good in
+    let good = good_counters w.state 0 w.state.entries (omega arith) fits.good in
     record { good = good; began = record { good = good; sessions = refl }; replays = refl; places = fits.places; hands = fits.hands }
 
 -- a book that has begun a round, or is as it was

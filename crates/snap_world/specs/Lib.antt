@@ -7,3 +7,5 @@ pub mod Layers
 pub mod Quota
 pub mod Sums
 pub mod Round
+pub mod Saved
+pub mod Restored

@@ -1,5 +1,5 @@
 // The open snapshots of a world, each in the place of its slot. They have to be spent.
-ghost use Rattle.std.specs.Prelude.{◌≡◌, ◌<◌, false, true, replicate, Some, None, IfOk, IfErr, OnErr, OnOk, IfSome, MatchOption, option_copied, length};
+ghost use Rattle.std.specs.Prelude.{◌≡◌, ◌<◌, ◌≤◌, ◌+◌, ◌^◌, false, true, replicate, Some, None, IfOk, IfErr, OnErr, OnOk, IfSome, MatchOption, option_copied, length};
 ghost use Rattle.snap_usage.specs.Counted.{count_of};
 ghost use Rattle.snap_book.specs.Held.{share_of};
 ghost use Rattle.snap_world.specs.World.{hand_at, with_hand};
@@ -8,6 +8,7 @@ ghost use Rattle.snap_world.specs.Layers.{MayHave, layer_put, open_layer};
 ghost use Rattle.snap_world.specs.Stacks.{layers_in};
 ghost use Rattle.snap_world.specs.Sums.{spare_in};
 
+use snap_accounts::Accounts;
 use snap_book::{Active, Book, Held, Sealed};
 use snap_layer::Layer;
 use snap_ledger::StoreName;
@@ -114,6 +115,16 @@ impl<N: StoreName> Hand<N> {
         match &self.held {
             Held::Active(active) => active.layer(),
             Held::Sealed(sealed) => sealed.layer(),
+        }
+    }
+
+    // Its layer doesn't change any more.
+    pub(crate) fn is_sealed(&self) -> bool
+        ensures { result ≡ self.now.sealed }
+    {
+        match &self.held {
+            Held::Active(_) => false,
+            Held::Sealed(_) => true,
         }
     }
 
@@ -300,6 +311,19 @@ impl<N: StoreName> Hands<N> {
         while let Some(place) = list.pop() {
             if let Some(hand) = place {
                 book.discard(0, hand.into_held());
+            }
+        }
+        list.destroy_empty();
+    }
+
+    // All hands are given back to accounts that have no book yet.
+    pub(crate) fn give_back(self, accounts: &mut Accounts<N>)
+        requires entries { accounts.old.entries + length self ≤ 2 ^ 63 }
+    {
+        let Hands { alloc: _, mut list } = self;
+        while let Some(place) = list.pop() {
+            if let Some(hand) = place {
+                hand.into_held().give_back(accounts);
             }
         }
         list.destroy_empty();

@@ -4,17 +4,27 @@
 //! in `specs/Move.antt`.
 #![tactic(auto)]
 
+mod fault;
 mod hands;
 mod layer;
 mod peek;
 mod quota;
+mod restore;
+mod restoring;
 mod round;
+mod save;
 mod step;
 mod world;
 
+pub use fault::RestoreFault;
 pub use quota::Quota;
+pub use restoring::{Restoring, SavedHand};
 pub use round::ReopenFault;
-pub use snap_call::{Call, Config, Entry, Given, Namespace, Refusal, Reply, SharedEntry};
+pub use save::{SavedSnapshot, SavedWorld};
+pub use snap_call::{
+    Call, Config, ConfigField, Entry, Given, Namespace, Refusal, Reply, Saved, SavedContent,
+    SavedLease, SharedEntry,
+};
 pub use snap_merge::FsError;
 pub use snap_path::NoMemory;
 pub use snap_record::{Info, Kind, Labels, Record};

@@ -27,6 +27,8 @@ mod plain_values;
 #[cfg(test)]
 mod rounds;
 #[cfg(test)]
+mod saved;
+#[cfg(test)]
 mod sent;
 #[cfg(test)]
 mod session_life;

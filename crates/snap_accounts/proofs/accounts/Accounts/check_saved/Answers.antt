@@ -9,7 +9,7 @@ returns-clause-possible g c =
     let s = c.args.self.now in
     let saved = c.args.saved.now in
     let place = c.in_ok-place.place in
-    can_put_back s saved place
+    can_put_back s saved place c.in_ok-check_numbers.ensures.above
     ((λ i. place_for s (sym c.as_str-namespace.ensures i) (sym c.as_str-key.ensures i) (sym c.as_str.ensures i) saved.labels) ∙ c.in_ok-place.ensures.ok)
     (sym c.in_ok-check_numbers.ensures.answer)
     (sym c.in_ok-check_slot.ensures.answer)

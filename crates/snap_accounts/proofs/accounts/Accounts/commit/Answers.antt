@@ -72,7 +72,7 @@ invariant_of-self-2 g c =
     ap (λ (o : Option Record). has_key (place_if o) name s.records) (sym e) ∙ (ap (λ (u : State). has_key (place_if (active_at slot u.records)) name u.records) same ∙ c.requires.possible.free) in
     let done = committed_from c.slot-slot.result slot name lease labels layer s c.commit.new.self r c.slot-slot.ensures e c.in_default.ensures.ok in
     let less = open_count-committed slot name labels layer (s.entries + 1) s.records r e in
-    let good = good_committed s slot name lease labels layer r c.self.invariant.good e free (subst (λ (u : Usage). Covers u (count_of layer)) (sym own) c.requires.covers) in
+    let good = good_committed s slot name lease labels layer r c.self.invariant.good e c.requires.possible.formed free (subst (λ (u : Usage). Covers u (count_of layer)) (sym own) c.requires.covers) in
     subst (λ (u : State). AreAccounts (record u { entries = s.entries + 1 }) c.set.new.self c.spend.new.self (c.self.inside.opened - 1)) (sym done)
     (accounts_committed s (record s { records = with_record (committed_as name labels layer (s.entries + 1) r) (without_slot slot s.records); leases = leases_after s r.namespace name lease; entries = s.entries + 1 }) c.self.inside.totals _ c.self.inside.slots _ c.self.inside.opened (c.self.inside.opened - 1) slot (s.entries + 1) name labels layer r c.self.invariant
     good

@@ -67,6 +67,7 @@ invariant_of-self-2 g c =
     (ap (λ (u : State). has_key place key u.records) view ∙ c.requires.vacant.site.new)
     (ap (λ (u : State). is_base place parent u.records) view ∙ c.requires.vacant.site.base)
     (ap (λ (u : State). is_too_deep u.ancestors place parent u.records) view ∙ c.requires.vacant.site.deep)
+    c.requires.vacant.site.texts
     (subst (λ (u : State). slot < u.slots) (sym view) c.requires.vacant.low)
     c.requires.vacant.few
     (ap (λ (u : State). active_at slot u.records) view ∙ c.requires.vacant.free)

@@ -7,7 +7,7 @@ use Rattle.snap_usage.specs.Counted.{no_usage}
 use Rattle.snap_ledger.specs.States.{ChargeState, free_row}
 use Rattle.snap_call.specs.declared.config.Config.{Config}
 use Rattle.snap_call.specs.declared.state.State.{State}
-use Rattle.snap_call.specs.Forms.{is_config}
+use Rattle.snap_call.specs.Forms.{is_saved_config}
 use Rattle.snap_call.specs.Records.{max_slots}
 use Rattle.snap_call.specs.State.{opening}
 use Rattle.snap_call.proofs.Kept.{good_opening}
@@ -22,7 +22,7 @@ zeros n k lt =
     slice_get-get_or (replicate n no_usage) k no_usage inside ∙ ap (λ (u : Usage). Some u) (get_or-replicate n k no_usage no_usage lt)
 
 -- nothing is charged, and every slot is free
-accounts_opened : (config : Config) (us : List Usage) (cs : List ChargeState) → is_config config ≡ true → us ≡ replicate (length config.namespaces) no_usage → cs ≡ free_row max_slots → AreAccounts (opening config) us cs 0
+accounts_opened : (config : Config) (us : List Usage) (cs : List ChargeState) → is_saved_config config ≡ true → us ≡ replicate (length config.namespaces) no_usage → cs ≡ free_row max_slots → AreAccounts (opening config) us cs 0
 accounts_opened config us cs formed is_us is_cs = record {
   good = good_opening config formed;
   count = ap length is_us ∙ length-replicate (length config.namespaces) no_usage;

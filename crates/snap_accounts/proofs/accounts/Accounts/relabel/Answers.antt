@@ -11,7 +11,7 @@ pub invariant_of-self : goal.invariant_of-self
 invariant_of-self g c =
     let s = c.self.inside.state in
     subst (λ (l : List Record). AreAccounts (record s { records = l; entries = s.entries + 1 }) c.self.inside.totals c.self.inside.slots c.self.inside.opened) (sym c.relabel.ensures)
-    (accounts_relabelled s c.self.inside.totals c.self.inside.slots c.self.inside.opened c.args.place c.args.key.now c.args.labels c.self.invariant)
+    (accounts_relabelled s c.self.inside.totals c.self.inside.slots c.self.inside.opened c.args.place c.args.key.now c.args.labels c.self.invariant c.requires.formed)
 
 pub returns-clause-open : goal.returns-clause-open
 returns-clause-open g c =

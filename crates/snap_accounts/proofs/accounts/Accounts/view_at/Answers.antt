@@ -1,4 +1,4 @@
-use Rattle.std.proofs.Common.{◌≡◌, List, refl, sym, ap, ◌∙◌, subst}
+use Rattle.std.proofs.Common.{◌≡◌, List, refl, sym, ap, ◌∙◌, subst, arith}
 use Rattle.snap_layer.specs.Tree.{Tree}
 use Rattle.snap_record.specs.declared.record.Content.TheVariants.{View}
 use Rattle.snap_record.specs.declared.record.Record.{Record}
@@ -36,4 +36,4 @@ returns-clause-possible g c =
     ap (λ (u : State). shown_layers place parent u.records) (sym c.self.view_is) ∙ (ap or_empty (sym c.in_ok-ids.ensures.layers) ∙ sym c.in_ok-shown.ensures) in
     let made : new_record s place c.args.key.now parent c.args.labels.now (View (shown_layers place parent s.records)) ≡ c.in_ok-snapshot.snapshot =
     ap (λ (l : List Tree). new_record s place c.args.key.now parent c.args.labels.now (View l)) layers ∙ sym c.in_ok-snapshot.ensures in
-    subst (λ (r : Record). IsNewView s r) made (record { view = refl; id = refl; site = c.requires.site })
+    subst (λ (r : Record). IsNewView s r) made (record { view = refl; id = refl; known = (omega arith, omega arith, omega arith); site = c.requires.site })

@@ -1,6 +1,5 @@
 use Rattle.std.proofs.Common.{◌≡◌, ap, arith}
 use Rattle.snap_call.specs.declared.state.State.{State}
-use Rattle.snap_call.proofs.Places.{place_for-Ok}
 use Rattle.snap_accounts.proofs.Prepared.{site}
 use Rattle.snap_accounts.proofs.accounts.Accounts.view_place.Goals as goal
 
@@ -9,6 +8,5 @@ returns-clause-site g c =
     let s = c.args.self.now in
     let place = c.in_ok-place.place in
     let same : c.self.inside.state.next_id ≡ s.next_id = ap (λ (u : State). u.next_id) c.self.view_is in
-    site s c.args.namespace.now c.args.key.now c.args.parent.now place
-    (place_for-Ok s c.args.namespace.now c.args.key.now c.args.parent.now c.args.labels.now place c.in_ok-place.ensures.ok)
+    site s c.args.namespace.now c.args.key.now c.args.parent.now c.args.labels.now place c.in_ok-place.ensures.ok
     (omega (arith, same, c.if-self-gt-MAX_ID.false))

@@ -1,7 +1,7 @@
-use Rattle.std.specs.Prelude.{Result, Ok, Err, IfOk}
+use Rattle.std.specs.Prelude.{List, Result, Ok, Err, IfOk}
 use Rattle.std.proofs.Common.{◌≡◌, ◌≤◌, false, sym, ap, ◌∙◌, subst, arith}
 use Rattle.snap_path.specs.Limits.{most_number}
-use Rattle.snap_record.specs.Labels.{Bytes}
+use Rattle.snap_record.specs.Labels.{Bytes, Label}
 use Rattle.snap_call.specs.declared.call.Call.TheVariants as calls
 use Rattle.snap_call.specs.declared.call.Given.TheVariants.{Nothing}
 use Rattle.snap_call.specs.declared.entry.Entry.{Entry}
@@ -20,12 +20,12 @@ use Rattle.snap_book.proofs.Keeping.{kept_push, recorded_push}
 use Rattle.snap_book.proofs.book.Book.prepare_within.Goals as goal
 
 -- where it is granted, the chain leaves room, and there is an id
-has_chain : (s : State) (key parent : Bytes) (found : Result Vacancy Refusal) → IfOk found (λ v. IsVacant s v key parent) → IfOk found (λ v. (is_too_deep s.ancestors v.place parent s.records ≡ false) × (s.next_id ≤ most_number))
-has_chain s key parent (Ok v) vacant = (vacant.site.deep, vacant.site.numbers)
-has_chain s key parent (Err why) vacant = tt
+has_chain : (s : State) (key parent : Bytes) (labels : List Label) (found : Result Vacancy Refusal) → IfOk found (λ v. IsVacant s v key parent labels) → IfOk found (λ v. (is_too_deep s.ancestors v.place parent s.records ≡ false) × (s.next_id ≤ most_number))
+has_chain s key parent labels (Ok v) vacant = (vacant.site.deep, vacant.site.numbers)
+has_chain s key parent labels (Err why) vacant = tt
 
 pub reply_to-requires : goal.reply_to-requires
-reply_to-requires g c = has_chain c.self.inside.accounts c.args.key.now c.args.parent.now c.vacancy-found.result c.vacancy-found.ensures.vacant
+reply_to-requires g c = has_chain c.self.inside.accounts c.args.key.now c.args.parent.now c.args.labels.now c.vacancy-found.result c.vacancy-found.ensures.vacant
 
 pub invariant_of-self-in-Err : goal.invariant_of-self-in-Err
 invariant_of-self-in-Err g c =

@@ -1,6 +1,6 @@
 use Rattle.std.proofs.Common.{Some, ap, ◌∙◌}
 use Rattle.snap_world.specs.World.{HandValue, with_hand}
-use Rattle.snap_world.proofs.Putting.{nothing_may, put_lacks, put_may, put_stayed, put_went}
+use Rattle.snap_world.proofs.Putting.{put_lacks, put_may, put_stayed, put_went}
 use Rattle.snap_world.proofs.hands.Hands.put_layer.Goals as goal
 
 pub returns-clause-ok : goal.returns-clause-ok

@@ -1,0 +1,3 @@
+mod Listing
+mod Labelling
+pub mod StoreBack

@@ -1,0 +1,40 @@
+-- The names of the fields of lines.
+use Rattle.std.specs.Prelude.{ℕ, List, codes}
+use Rattle.snap_pieces.specs.declared.field.LineField.{LineField}
+use Rattle.snap_pieces.specs.declared.field.LineField.TheVariants as fields
+
+-- the name of a field
+abbrev pub line_field_name : LineField → List ℕ
+line_field_name fields.Ancestors = codes "ancestors"
+line_field_name fields.Blocks = codes "blocks"
+line_field_name fields.Bytes = codes "bytes"
+line_field_name fields.Created = codes "created"
+line_field_name fields.Digest = codes "digest"
+line_field_name fields.Entries = codes "entries"
+line_field_name fields.FirstId = codes "first_id"
+line_field_name fields.Id = codes "id"
+line_field_name fields.Inodes = codes "inodes"
+line_field_name fields.Journal = codes "journal"
+line_field_name fields.Key = codes "key"
+line_field_name fields.Kind = codes "kind"
+line_field_name fields.LayerInodes = codes "layer_inodes"
+line_field_name fields.Mode = codes "mode"
+line_field_name fields.Most = codes "most"
+line_field_name fields.Name = codes "name"
+line_field_name fields.Namespace = codes "ns"
+line_field_name fields.Next = codes "next"
+line_field_name fields.NextId = codes "next_id"
+line_field_name fields.Number = codes "number"
+line_field_name fields.Opaque = codes "opaque"
+line_field_name fields.Parent = codes "parent"
+line_field_name fields.Path = codes "path"
+line_field_name fields.Piece = codes "piece"
+line_field_name fields.Root = codes "root"
+line_field_name fields.Sealed = codes "sealed"
+line_field_name fields.Size = codes "size"
+line_field_name fields.Slot = codes "slot"
+line_field_name fields.Slots = codes "slots"
+line_field_name fields.Target = codes "target"
+line_field_name fields.Until = codes "until"
+line_field_name fields.Updated = codes "updated"
+line_field_name fields.Value = codes "value"

@@ -1,0 +1,12 @@
+use crate::piece::{StoreHead, StorePiece};
+
+/// A line of a saved store: its head comes first, and its end last.
+#[derive(Debug, Drop)]
+pub enum Line {
+    /// What the store has besides its pieces.
+    Head(StoreHead),
+    /// A piece.
+    Piece(StorePiece),
+    /// All pieces have come.
+    End,
+}

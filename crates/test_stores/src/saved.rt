@@ -1,0 +1,295 @@
+// A world that is saved, and restored.
+ghost use Rattle.std.specs.Prelude.{◌≡◌, IfOk, IfErr, Ok};
+ghost use Rattle.std.specs.List.{AllByRecursion};
+ghost use Rattle.snap_book.specs.Round.{roll_answer};
+ghost use Rattle.snap_path.specs.Memory.{no_memory};
+ghost use Rattle.snap_checkpoint.specs.declared.fault.StoreFault.TheVariants as store_faults;
+ghost use Rattle.snap_world.specs.Round.{reopened};
+ghost use Rattle.snap_world.specs.Saved.{IsWholeSnapshot};
+ghost use Rattle.snap_world.specs.declared.fault.RestoreFault.TheVariants.{OutOfMemory};
+
+use crate::setup::{config, equal, new_table, path, text, usage};
+use snap_call::{Call, ConfigField, Refusal, Reply};
+use snap_checkpoint::{StoreFault, StoreGathering, StorePieces};
+use snap_json::{Scratch, Value, Writer};
+use snap_ledger::{NewTable, StoreName};
+use snap_merge::FsError;
+use snap_pieces::{Line, StorePiece, read_line, write_line};
+use snap_record::{Labels, Sequence, Text};
+use snap_upper::Op;
+use snap_world::{Answer, RestoreFault, SavedWorld, Step, World};
+use std::alloc::Global;
+use std::marker::Brand;
+use std::process::Abort;
+
+// What is saved of a world makes the world of a roll, or memory is refused. A witness: it is proved, and not run.
+fn again<N: StoreName, M: StoreName>(
+    alloc: Global,
+    table: NewTable,
+    world: &World<N>,
+) -> Result<World<M>, RestoreFault>
+    requires table { table ≡ M.table }
+    requires room { roll_answer world.now.state world.now.limit ≡ Ok tt }
+    ensures rolled { IfOk result (λ w. w ≡ reopened world.now world.now.limit) }
+    ensures memory { IfErr result (λ fault. fault ≡ OutOfMemory no_memory) }
+{
+    let saved = world.save(alloc)?;
+    World::<M>::restore(alloc, table, saved)
+}
+
+// The pieces of what is saved of a world, put one after another, make it again, or memory is refused.
+fn through_pieces(alloc: Global, saved: SavedWorld) -> Result<SavedWorld, StoreFault>
+    requires { AllByRecursion IsWholeSnapshot saved.snapshots }
+    ensures same { IfOk result (λ back. back ≡ saved) }
+    ensures memory { IfErr result (λ fault. fault ≡ store_faults.OutOfMemory no_memory) }
+{
+    let (head, mut pieces) = StorePieces::begin(alloc, saved)?;
+    let mut gathering = StoreGathering::begin(alloc, head);
+    while let Some(piece) = pieces.next_piece()? {
+        if let Err(fault) = gathering.put(piece) {
+            return Err(fault);
+        }
+    }
+    gathering.finish()
+}
+
+fn written<R: Abort>(rt: &R, alloc: Global, line: &Line) -> String {
+    let mut out = Writer::new(alloc).expect(rt, "memory for a line");
+    write_line(alloc, &mut out, line).expect(rt, "memory for a line");
+    out.finish()
+}
+
+fn read<R: Abort>(rt: &R, alloc: Global, text: &str) -> Line {
+    let mut scratch = Scratch::new(alloc);
+    let value = Value::read_object(alloc, text, &mut scratch).expect(rt, "JSON");
+    let value = value.expect(rt, "an object");
+    read_line(alloc, &value).expect(rt, "a line")
+}
+
+// What is read of a line's text.
+fn through_text<R: Abort>(rt: &R, alloc: Global, line: &Line) -> Line {
+    let text = written(rt, alloc, line);
+    read(rt, alloc, text.as_str())
+}
+
+fn put<R: Abort>(rt: &R, alloc: Global, to: &mut StoreGathering, piece: StorePiece) {
+    match through_text(rt, alloc, &Line::Piece(piece)) {
+        Line::Piece(piece) => to.put(piece).expect(rt, "a piece in its place"),
+        Line::Head(_) | Line::End => equal(rt, "a piece", false, true),
+    }
+}
+
+// A saved world by the lines of its pieces, of which there are at most 64.
+fn through_lines<R: Abort>(rt: &R, alloc: Global, saved: SavedWorld) -> SavedWorld {
+    let (head, mut pieces) = StorePieces::begin(alloc, saved).expect(rt, "memory for pieces");
+    let mut gathering = StoreGathering::begin(alloc, head);
+    for _ in 0..64 {
+        if let Some(piece) = pieces.next_piece().expect(rt, "memory for a piece") {
+            put(rt, alloc, &mut gathering, piece);
+        }
+    }
+    let left = pieces.next_piece().expect(rt, "memory for a piece");
+    equal(rt, "a piece is left", left.is_some(), false);
+    gathering.finish().expect(rt, "a saved world")
+}
+
+fn prepare<R: Abort>(rt: &R, alloc: Global, key: &str, parent: &str) -> Step {
+    let call = Call::Prepare {
+        namespace: text(rt, alloc, "a"),
+        key: text(rt, alloc, key),
+        parent: text(rt, alloc, parent),
+        labels: Labels::new(alloc),
+    };
+    Step::Locked(0, call)
+}
+
+fn mkdir<R: Abort>(rt: &R, alloc: Global, at: &str) -> Step {
+    let path = path(rt, alloc, at);
+    Step::Hand(0, Op::Mkdir { path, mode: 493 })
+}
+
+fn commit<R: Abort>(rt: &R, alloc: Global, name: &str) -> Step {
+    let call = Call::Commit {
+        slot: 0,
+        id: 1,
+        name: text(rt, alloc, name),
+        lease: None,
+        labels: None,
+    };
+    Step::Locked(0, call)
+}
+
+// The lease l names b.
+fn lease<R: Abort>(rt: &R, alloc: Global) -> (Step, Step) {
+    let create = Call::LeaseCreate {
+        namespace: text(rt, alloc, "a"),
+        lease: text(rt, alloc, "l"),
+        until: None,
+    };
+    let add = Call::LeaseAdd {
+        namespace: text(rt, alloc, "a"),
+        lease: text(rt, alloc, "l"),
+        name: text(rt, alloc, "b"),
+    };
+    (Step::Locked(0, create), Step::Locked(0, add))
+}
+
+fn remove<R: Abort>(rt: &R, alloc: Global) -> Step {
+    let call = Call::Remove {
+        namespace: text(rt, alloc, "a"),
+        key: text(rt, alloc, "b"),
+    };
+    Step::Locked(0, call)
+}
+
+fn release<R: Abort>(rt: &R, alloc: Global) -> Step {
+    let call = Call::LeaseRelease {
+        namespace: text(rt, alloc, "a"),
+        lease: text(rt, alloc, "l"),
+    };
+    Step::Locked(0, call)
+}
+
+// A world whose snapshot b, with one directory, is leased, and whose active snapshot k stands on it.
+fn saved<N: StoreName, R: Abort>(rt: &R, alloc: Global, table: NewTable) -> SavedWorld
+    requires { table ≡ N.table }
+    ensures { AllByRecursion IsWholeSnapshot result.snapshots }
+{
+    let config = config(rt, alloc, usage(10, 5), 100);
+    let mut world = World::<N>::open(alloc, table, config).expect(rt, "a world");
+    let charge = Call::Charge {
+        slot: 0,
+        id: 1,
+        need: usage(2, 2),
+        want: usage(2, 2),
+    };
+    let (create, add) = lease(rt, alloc);
+    let steps = [
+        Step::Locked(0, Call::Session),
+        prepare(rt, alloc, "w", ""),
+        Step::Locked(0, charge),
+        mkdir(rt, alloc, "/d"),
+        commit(rt, alloc, "b"),
+        create,
+        add,
+        prepare(rt, alloc, "k", "b"),
+    ];
+    let steps = Vec::from_array(alloc, steps).expect(rt, "memory for steps");
+    world.run(steps).expect(rt, "memory for answers");
+    equal(rt, "the charge", world.totals("a"), Some(usage(3, 3)));
+    world.save(alloc).expect(rt, "memory for what is saved")
+}
+
+// Ids, charges, hands and leases are as they were; sessions are counted from 0.
+fn goes_on<N: StoreName, R: Abort>(rt: &R, alloc: Global, table: NewTable, saved: SavedWorld)
+    requires { table ≡ N.table }
+{
+    let mut world = World::<N>::restore(alloc, table, saved).expect(rt, "a world");
+    equal(rt, "the charge", world.totals("a"), Some(usage(3, 3)));
+    let steps = [
+        Step::Locked(0, Call::Session),
+        mkdir(rt, alloc, "/e"),
+        Step::Locked(0, Call::Discard { slot: 0, id: 2 }),
+        remove(rt, alloc),
+        release(rt, alloc),
+        remove(rt, alloc),
+        prepare(rt, alloc, "x", ""),
+    ];
+    let steps = Vec::from_array(alloc, steps).expect(rt, "memory for steps");
+    let found = world.run(steps).expect(rt, "memory for answers");
+    let (slot, id, chain) = (0, 3, Sequence::new(alloc));
+    let wanted = [
+        Answer::Reply(Reply::Opened),
+        Answer::File(Err(FsError::NeedsCharge(usage(2, 2)))),
+        Answer::Reply(Reply::Discarded(usage(1, 1))),
+        Answer::Reply(Reply::Refused(Refusal::Leased)),
+        Answer::Reply(Reply::Done),
+        Answer::Reply(Reply::Removed(usage(2, 2))),
+        Answer::Reply(Reply::Prepared { id, slot, chain }),
+    ];
+    equal(rt, "the answers", found.as_slice(), wanted.as_slice());
+}
+
+// One part is malformed.
+fn spoil<R: Abort>(rt: &R, alloc: Global, part: RestoreFault, saved: &mut SavedWorld) {
+    match part {
+        RestoreFault::Config(_) => saved.config.slots = 0,
+        RestoreFault::Entries => saved.entries = 4_611_686_018_427_387_905,
+        RestoreFault::Snapshot(place, _) => saved.snapshots[place].hand = None,
+        RestoreFault::Lease(place, _) => saved.leases[place].name = Text::new(alloc),
+        RestoreFault::NextId => saved.next_id = 2,
+        RestoreFault::Journal(_) => saved.config.journal = 1,
+        RestoreFault::OutOfMemory(_) => equal(rt, "a part", false, true),
+    }
+}
+
+fn refused<N: StoreName, R: Abort>(
+    rt: &R,
+    alloc: Global,
+    table: NewTable,
+    saved: SavedWorld,
+    fault: RestoreFault,
+)
+    requires { table ≡ N.table }
+{
+    match World::<N>::restore(alloc, table, saved) {
+        Ok(_) => equal(rt, "a fault", false, true),
+        Err(found) => equal(rt, "the fault", found, fault),
+    }
+}
+
+// A line of each kind, by snap_pieces/README.md.
+#[test]
+fn lines_are_written_as_they_are_read(rt: HostRuntime) {
+    let alloc = rt.alloc();
+    for text in [
+        r#"{"ancestors":64,"do":"restore","entries":8,"first_id":1,"journal":9,"layer_inodes":7,"next_id":3,"piece":"store","root":"/r","slots":2}"#,
+        r#"{"blocks":0,"do":"restore","inodes":0,"name":"","piece":"namespace"}"#,
+        r#"{"created":1,"do":"restore","id":1,"key":"v","kind":"View","ns":"a","parent":"","piece":"snapshot","updated":2}"#,
+        r#"{"blocks":2,"created":1,"do":"restore","id":1,"inodes":1,"key":"k","kind":"Active","mode":493,"most":9,"next":1,"ns":"a","opaque":true,"parent":"b","piece":"snapshot","sealed":true,"slot":0,"updated":1}"#,
+        r#"{"created":1,"do":"restore","id":4294967295,"key":"b","kind":"Committed","mode":493,"most":9,"next":1,"ns":"a","opaque":false,"parent":"","piece":"snapshot","updated":3}"#,
+        r#"{"do":"restore","key":"k","piece":"label","value":"\"\u0001"}"#,
+        r#"{"do":"restore","mode":493,"opaque":true,"path":"/é","piece":"dir"}"#,
+        r#"{"do":"restore","path":"/x","piece":"whiteout"}"#,
+        r#"{"do":"restore","mode":420,"number":1,"piece":"file"}"#,
+        r#"{"digest":"","do":"restore","mode":420,"number":2,"piece":"sized","size":0}"#,
+        r#"{"do":"restore","mode":420,"number":2,"piece":"sized","size":18446744073709551615}"#,
+        r#"{"do":"restore","number":1,"piece":"symlink","target":"ff2f"}"#,
+        r#"{"bytes":"00ff","do":"restore","piece":"bytes"}"#,
+        r#"{"do":"restore","path":"/d/n","piece":"name"}"#,
+        r#"{"do":"restore","name":"l","ns":"a","piece":"lease","until":18446744073709551615}"#,
+        r#"{"do":"restore","name":"l","ns":"a","piece":"lease"}"#,
+        r#"{"do":"restore","name":"b","piece":"leased"}"#,
+        r#"{"do":"restore","piece":"end"}"#,
+    ] {
+        let line = read(&rt, alloc, text);
+        let again = written(&rt, alloc, &line);
+        equal(&rt, "the line", again.as_str(), text);
+    }
+}
+
+#[test]
+fn a_world_goes_on(rt: HostRuntime) {
+    let alloc = rt.alloc();
+    let saved = saved::<Brand, HostRuntime>(&rt, alloc, new_table(&rt, alloc));
+    let saved = through_pieces(alloc, saved).expect(&rt, "the same");
+    let saved = through_lines(&rt, alloc, saved);
+    goes_on::<Brand, HostRuntime>(&rt, alloc, new_table(&rt, alloc), saved);
+}
+
+#[test]
+fn parts_are_refused(rt: HostRuntime) {
+    let alloc = rt.alloc();
+    for fault in [
+        RestoreFault::Config(ConfigField::Slots),
+        RestoreFault::Entries,
+        RestoreFault::Snapshot(1, Refusal::BadArgument),
+        RestoreFault::Lease(0, Refusal::BadArgument),
+        RestoreFault::NextId,
+        RestoreFault::Journal(Refusal::JournalFull),
+    ] {
+        let mut saved = saved::<Brand, HostRuntime>(&rt, alloc, new_table(&rt, alloc));
+        spoil(&rt, alloc, fault, &mut saved);
+        refused::<Brand, HostRuntime>(&rt, alloc, new_table(&rt, alloc), saved, fault);
+    }
+}
