@@ -215,8 +215,16 @@ fn spoil<R: Abort>(rt: &R, alloc: Global, part: RestoreFault, saved: &mut SavedW
     match part {
         RestoreFault::Config(_) => saved.config.slots = 0,
         RestoreFault::Entries => saved.entries = 4_611_686_018_427_387_905,
-        RestoreFault::Snapshot(place, _) => saved.snapshots[place].hand = None,
-        RestoreFault::Lease(place, _) => saved.leases[place].name = Text::new(alloc),
+        RestoreFault::Snapshot(place, _) => {
+            if let Some(snapshot) = saved.snapshots.get_mut(place) {
+                snapshot.hand = None;
+            }
+        }
+        RestoreFault::Lease(place, _) => {
+            if let Some(lease) = saved.leases.get_mut(place) {
+                lease.name = Text::new(alloc);
+            }
+        }
         RestoreFault::NextId => saved.next_id = 2,
         RestoreFault::Journal(_) => saved.config.journal = 1,
         RestoreFault::OutOfMemory(_) => equal(rt, "a part", false, true),
@@ -236,6 +244,23 @@ fn refused<N: StoreName, R: Abort>(
         Ok(_) => equal(rt, "a fault", false, true),
         Err(found) => equal(rt, "the fault", found, fault),
     }
+}
+
+// What is saved of a world of a new table.
+fn new_saved<R: Abort>(rt: &R, alloc: Global) -> SavedWorld
+    ensures { AllByRecursion IsWholeSnapshot result.snapshots }
+{
+    saved::<Brand, R>(rt, alloc, new_table(rt, alloc))
+}
+
+fn resumed<R: Abort>(rt: &R, alloc: Global, saved: SavedWorld) {
+    goes_on::<Brand, R>(rt, alloc, new_table(rt, alloc), saved);
+}
+
+fn spoiled<R: Abort>(rt: &R, alloc: Global, fault: RestoreFault) {
+    let mut saved = new_saved(rt, alloc);
+    spoil(rt, alloc, fault, &mut saved);
+    refused::<Brand, R>(rt, alloc, new_table(rt, alloc), saved, fault);
 }
 
 // A line of each kind, by snap_pieces/README.md.
@@ -271,10 +296,10 @@ fn lines_are_written_as_they_are_read(rt: HostRuntime) {
 #[test]
 fn a_world_goes_on(rt: HostRuntime) {
     let alloc = rt.alloc();
-    let saved = saved::<Brand, HostRuntime>(&rt, alloc, new_table(&rt, alloc));
+    let saved = new_saved(&rt, alloc);
     let saved = through_pieces(alloc, saved).expect(&rt, "the same");
     let saved = through_lines(&rt, alloc, saved);
-    goes_on::<Brand, HostRuntime>(&rt, alloc, new_table(&rt, alloc), saved);
+    resumed(&rt, alloc, saved);
 }
 
 #[test]
@@ -288,8 +313,6 @@ fn parts_are_refused(rt: HostRuntime) {
         RestoreFault::NextId,
         RestoreFault::Journal(Refusal::JournalFull),
     ] {
-        let mut saved = saved::<Brand, HostRuntime>(&rt, alloc, new_table(&rt, alloc));
-        spoil(&rt, alloc, fault, &mut saved);
-        refused::<Brand, HostRuntime>(&rt, alloc, new_table(&rt, alloc), saved, fault);
+        spoiled(&rt, alloc, fault);
     }
 }
