@@ -52,8 +52,8 @@ pub(crate) fn fault_of(part: RestoreFault, why: Refusal) -> RestoreFault
     ensures part { (result ≡ part) ⊎ (why ≡ refusals.OutOfMemory no_memory) }
     ensures memory { why ≡ refusals.OutOfMemory no_memory → result ≡ faults.OutOfMemory no_memory }
 {
-    match why {
-        Refusal::OutOfMemory(no_memory) => RestoreFault::OutOfMemory(no_memory),
-        _ => part,
+    if let Refusal::OutOfMemory(no_memory) = why {
+        return RestoreFault::OutOfMemory(no_memory);
     }
+    part
 }
