@@ -213,10 +213,6 @@ left_stands text seen may_leave is c from = stands text c is.lines (is.left c fr
 pub left_opens : (text seen : List ℕ) (may_leave : List ℕ → Type 0) → IsDurable text seen may_leave → (c : List ℕ) → may_leave c → IsLog c
 left_opens text seen may_leave is c from = is_log text c is.lines (is.left c from)
 
--- nothing was added
-pub none_added : (text seen : List ℕ) (may_leave : List ℕ → Type 0) → IsDurable text seen may_leave → IsDurable (text ++ []) seen may_leave
-none_added text seen may_leave is = subst (λ (t : List ℕ). IsDurable t seen may_leave) (sym (append-nil text)) is
-
 -- what is kept is the file's text
 pub now_kept : (text seen : List ℕ) (may_leave : List ℕ → Type 0) → IsDurable text seen may_leave → IsDurable (log_text seen) seen may_leave
 now_kept text seen may_leave is = subst (λ (t : List ℕ). IsDurable t seen may_leave) (sym (kept_stands text seen may_leave is)) is

@@ -5,3 +5,5 @@ pub mod Stages
 pub mod Opening
 pub mod Log
 pub mod Batches
+pub mod Parts
+pub mod Staged

@@ -4,6 +4,7 @@ use Rattle.sqlite_disk.specs.declared.Disk.{Ghosts}
 use Rattle.snap_log.specs.declared.log.Log.{Log}
 use Rattle.snap_log.specs.declared.error.OpenFailed.{OpenFailed}
 use Rattle.snap_log.specs.declared.error.AppendFailed.{AppendFailed}
+use Rattle.snap_log.specs.declared.error.ClearFailed.{ClearFailed}
 use Rattle.snap_log.specs.declared.error.AppendFailed.TheVariants.{NotKept, Unknown}
 use Rattle.snap_log.specs.Texts.{log_text, IsLog}
 
@@ -35,6 +36,11 @@ module _ {D : Type 0} {g : Ghosts D} where
   disk_after (Ok log) = log.disk
   disk_after (Err (NotKept log error)) = log.disk
   disk_after (Err (Unknown disk error)) = disk
+
+  -- the disk after a clearing, whatever it answered
+  abbrev pub disk_cleared : Result (Log D g) (ClearFailed D) → D
+  disk_cleared (Ok log) = log.disk
+  disk_cleared (Err failed) = failed.disk
 
   -- where a write failed, this holds of the log
   abbrev pub IfNotKept : Result (Log D g) (AppendFailed D g) → (Log D g → Type 0) → Type 0

@@ -35,6 +35,14 @@ pub struct OpenFailed<D> {
     pub why: OpenError,
 }
 
+/// A file whose lines were not taken away, and why. A write or a sync failed, and what is on the disk is unknown: the log
+/// has its lines, or none. Open the file again, in another process where its cache may lie.
+#[derive(Drop)]
+pub struct ClearFailed<D> {
+    pub disk: D,
+    pub error: io::Error,
+}
+
 /// Why lines were not added.
 #[derive(Drop)]
 pub enum AppendFailed<D: Disk> {

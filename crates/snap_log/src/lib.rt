@@ -14,6 +14,6 @@ mod settle;
 mod stage;
 
 pub use batch::Batch;
-pub use error::{AppendFailed, OpenError, OpenFailed};
+pub use error::{AppendFailed, ClearFailed, OpenError, OpenFailed};
 pub use lines::Lines;
-pub use log::Log;
+pub use log::{Appending, Log};

@@ -1,12 +1,15 @@
-ghost use Rattle.std.specs.Prelude.{◌≡◌, ◌≢◌, ◌⊎◌, ◌+◌, ◌<◌, ◌≤◌, ◌^◌, ℕ, List, ◌++◌, length, take, drop, slice_index, OnOk, OnErr, IfOk, IfErr, IsTrue};
+ghost use Rattle.std.specs.Prelude.{◌≡◌, false, ◌≢◌, ◌⊎◌, ◌+◌, ◌<◌, ◌≤◌, ◌^◌, ℕ, List, [], ◌++◌, length, take, drop, slice_index, OnOk, OnErr, IfOk, IfErr, IsTrue};
 ghost use Rattle.sqlite_disk.specs.Disk.{MoreFaults};
 ghost use Rattle.snap_log.specs.Texts.{log_text, gate_at, AreLines, IsLog};
 ghost use Rattle.snap_log.specs.Kept.{IsDurable, IsBeforeOrAfter};
 ghost use Rattle.snap_log.specs.Opening.{RefusesFile, FailsFor, IsRefusedFile};
 
-use crate::error::{AppendFailed, OpenFailed};
+mod appending;
+
+use crate::error::{AppendFailed, ClearFailed, OpenFailed};
 use crate::settle::settle;
-use crate::stage::{StageError, add};
+use crate::stage::close_gate;
+pub use appending::Appending;
 use sqlite_disk::Disk;
 use std::io;
 
@@ -23,7 +26,7 @@ pub struct Log<D: Disk> {
 }
 
 impl<D: Disk> Log<D> {
-    ghost use Rattle.snap_log.specs.Log.{disk_of, text_in, IsHonest, Keeps, disk_opened, disk_after, IfNotKept};
+    ghost use Rattle.snap_log.specs.Log.{disk_of, text_in, IsHonest, Keeps, disk_opened, disk_after, disk_cleared, IfNotKept};
 
     /// Opens a file as a log: its text is that of its whole lines, as a crash may have left them.
     ///
@@ -56,7 +59,8 @@ impl<D: Disk> Log<D> {
 
     /// Whether there is no line.
     pub fn is_empty(&self) -> bool
-        ensures { IsHonest self.now → IsTrue result → length (text_in self.now) ≡ 0 }
+        ensures none { IsHonest self.now → IsTrue result → length (text_in self.now) ≡ 0 }
+        ensures some { IsHonest self.now → result ≡ false → 0 < length (text_in self.now) }
     {
         self.end == 0
     }
@@ -103,14 +107,33 @@ impl<D: Disk> Log<D> {
             → MoreFaults (D.Disk.faults (disk_of self)) (D.Disk.faults (disk_after result)) ⊎ (2 ^ 64 ≤ length (text_in self) + length lines.now + 1)) }
         ensures clean { IsTrue (D.Disk.is_clean (disk_after result)) → IsHonest self }
     {
-        let Log { mut disk, end } = self;
-        match add(&mut disk, end, lines) {
-            Ok(()) => Ok(Log {
-                disk,
-                end: end + lines.len(),
-            }),
-            Err(StageError::Write(error)) => Err(AppendFailed::NotKept(Log { disk, end }, error)),
-            Err(StageError::Sync(error)) => Err(AppendFailed::Unknown(disk, error)),
+        let mut appending = self.begin_append();
+        match appending.push(lines) {
+            Ok(()) => appending.finish(),
+            Err(error) => Err(AppendFailed::NotKept(appending.give_up(), error)),
+        }
+    }
+
+    /// Takes all lines away, as one: a crash at any moment leaves all of them or none. Their bytes stay in the file, and
+    /// further lines are written over them.
+    ///
+    /// At `Ok` none is left, and each later crash leaves a log without a line. `ClearFailed` where the write of the one byte
+    /// failed by which they count, or its sync. One sync, one write, no memory; nothing where there is no line.
+    pub fn clear(self) -> Result<Log<D>, ClearFailed<D>>
+        ensures cleared { IfOk result (λ log. IsHonest log → Keeps log []) }
+        // Whatever the call answers, a crash leaves all of the lines or none.
+        ensures crash { IsTrue (D.Disk.is_clean (disk_cleared result)) → (c : List ℕ) → D.Disk.may_leave (disk_cleared result) c → (log_text c ≡ text_in self) ⊎ (log_text c ≡ []) }
+        // It doesn't give up by itself.
+        ensures faults { IfErr result (λ _. MoreFaults (D.Disk.faults (disk_of self)) (D.Disk.faults (disk_cleared result))) }
+        ensures clean { IsTrue (D.Disk.is_clean (disk_cleared result)) → IsHonest self }
+    {
+        if self.end == 0 {
+            return Ok(self);
+        }
+        let Log { mut disk, end: _ } = self;
+        match close_gate(&mut disk) {
+            Ok(()) => Ok(Log { disk, end: 0 }),
+            Err(error) => Err(ClearFailed { disk, error }),
         }
     }
 }

@@ -1,8 +1,9 @@
-// The two steps of an append.
-ghost use Rattle.std.specs.Prelude.{◌≡◌, ◌⊎◌, ◌+◌, ◌<◌, ◌≤◌, ◌^◌, ℕ, List, ◌∷◌, ◌++◌, length, slice_index, OnOk, IfErr, IsTrue};
+// The steps of an append, and of taking all lines away.
+ghost use Rattle.std.specs.Prelude.{◌≡◌, ◌⊎◌, ◌+◌, ◌<◌, ◌≤◌, ◌^◌, ℕ, List, [], ◌∷◌, ◌++◌, length, slice_index, OnOk, IfErr, IsTrue};
 ghost use Rattle.sqlite_disk.specs.Disk.{CountsFault, MoreFaults};
-ghost use Rattle.snap_log.specs.Texts.{gate_at, AreLines, IsLog};
+ghost use Rattle.snap_log.specs.Texts.{gate_at, log_text, AreLines, IsLog};
 ghost use Rattle.snap_log.specs.Kept.{IsDurable, IsStaged, IsBeforeOrAfter};
+ghost use Rattle.snap_log.specs.Parts.{staged_text};
 ghost use Rattle.snap_log.specs.Stages.{IsUsableUnless, IsWrite};
 
 use sqlite_disk::Disk;
@@ -15,43 +16,6 @@ pub(crate) enum StageError {
     Write(io::Error),
     // A sync failed, or the write of the gate.
     Sync(io::Error),
-}
-
-// Writes the bytes of lines but for the first one's brace behind the closed gate, and then the next closed gate.
-fn write_behind<D: Disk>(disk: &mut D, end: usize, rest: &[u8]) -> io::Result<()>
-    requires usable { IsTrue (D.Disk.is_usable disk.old) }
-    requires fits { end + length rest.now + 2 < 2 ^ 64 }
-    ensures kept { (text : List ℕ) → end ≡ length text → IsDurable text (D.Disk.seen disk.old) (D.Disk.may_leave disk.old)
-        → IsDurable text (D.Disk.seen disk.new) (D.Disk.may_leave disk.new) }
-    ensures staged { (text : List ℕ) → end ≡ length text → IsDurable text (D.Disk.seen disk.old) (D.Disk.may_leave disk.old)
-        → OnOk result ((behind : List ℕ) × (D.Disk.seen disk.new ≡ text ++ gate_at (length text) ∷ (rest.now ++ 32 ∷ behind))) }
-    ensures faults { CountsFault result (D.Disk.faults disk.old) (D.Disk.faults disk.new) }
-    ensures usable { IsTrue (D.Disk.is_usable disk.new) }
-    ensures clean { D.Disk.is_clean disk.new ≡ D.Disk.is_clean disk.old }
-{
-    disk.write_at(end + 1, rest)?;
-    disk.write_at(end + 1 + rest.len(), b" ")
-}
-
-// The same, and syncs them.
-pub(crate) fn stage<D: Disk>(disk: &mut D, end: usize, rest: &[u8]) -> Result<(), StageError>
-    requires usable { IsTrue (D.Disk.is_usable disk.old) }
-    requires fits { end + length rest.now + 2 < 2 ^ 64 }
-    ensures kept { (text : List ℕ) → end ≡ length text → IsDurable text (D.Disk.seen disk.old) (D.Disk.may_leave disk.old)
-        → IsDurable text (D.Disk.seen disk.new) (D.Disk.may_leave disk.new) }
-    ensures staged { (text : List ℕ) → end ≡ length text → IsDurable text (D.Disk.seen disk.old) (D.Disk.may_leave disk.old)
-        → OnOk result (IsStaged text rest.now (D.Disk.seen disk.new) (D.Disk.may_leave disk.new)) }
-    ensures faults { CountsFault result (D.Disk.faults disk.old) (D.Disk.faults disk.new) }
-    ensures usable { IsUsableUnless result (D.Disk.is_usable disk.new) }
-    ensures clean { D.Disk.is_clean disk.new ≡ D.Disk.is_clean disk.old }
-{
-    if let Err(error) = write_behind(disk, end, rest) {
-        return Err(StageError::Write(error));
-    }
-    match disk.sync() {
-        Ok(()) => Ok(()),
-        Err(error) => Err(StageError::Sync(error)),
-    }
 }
 
 // Opens the gate before lines that are staged, and syncs it.
@@ -71,36 +35,102 @@ pub(crate) fn open_gate<D: Disk>(disk: &mut D, end: usize) -> io::Result<()>
     disk.sync()
 }
 
-fn too_large() -> io::Error {
-    io::ErrorKind::FileTooLarge.into()
+// Closes the gate before the first line, and syncs it.
+pub(crate) fn close_gate<D: Disk>(disk: &mut D) -> io::Result<()>
+    requires usable { IsTrue (D.Disk.is_usable disk.old) }
+    ensures kept { OnOk result (IsDurable [] (D.Disk.seen disk.new) (D.Disk.may_leave disk.new)) }
+    ensures crash { (text : List ℕ) → 0 < length text → IsDurable text (D.Disk.seen disk.old) (D.Disk.may_leave disk.old)
+        → (c : List ℕ) → D.Disk.may_leave disk.new c → (log_text c ≡ text) ⊎ (log_text c ≡ []) }
+    ensures faults { CountsFault result (D.Disk.faults disk.old) (D.Disk.faults disk.new) }
+    ensures usable { OnOk result (IsTrue (D.Disk.is_usable disk.new)) }
+    ensures clean { D.Disk.is_clean disk.new ≡ D.Disk.is_clean disk.old }
+{
+    disk.write_at(0, b"\0")?;
+    disk.sync()
 }
 
-// Adds lines behind a text of this number of bytes.
-pub(crate) fn add<D: Disk>(disk: &mut D, end: usize, lines: &[u8]) -> Result<(), StageError>
+// Writes lines behind others that are staged behind the closed gate: of the first one the brace isn't written.
+pub(crate) fn write_next<D: Disk>(
+    disk: &mut D,
+    end: usize,
+    staged: usize,
+    lines: &[u8],
+) -> io::Result<()>
     requires usable { IsTrue (D.Disk.is_usable disk.old) }
+    requires some { 0 < length lines.now }
     requires lines { AreLines lines.now }
-    ensures added { (text : List ℕ) → end ≡ length text → IsDurable text (D.Disk.seen disk.old) (D.Disk.may_leave disk.old)
-        → OnOk result (IsDurable (text ++ lines.now) (D.Disk.seen disk.new) (D.Disk.may_leave disk.new)) }
-    ensures not_kept { (text : List ℕ) → end ≡ length text → IsDurable text (D.Disk.seen disk.old) (D.Disk.may_leave disk.old)
-        → IfErr result (λ why. IsWrite why → IsDurable text (D.Disk.seen disk.new) (D.Disk.may_leave disk.new)) }
-    ensures crash { (text : List ℕ) → end ≡ length text → IsDurable text (D.Disk.seen disk.old) (D.Disk.may_leave disk.old)
-        → (c : List ℕ) → D.Disk.may_leave disk.new c → IsBeforeOrAfter text lines.now c }
-    ensures opens { (text : List ℕ) → end ≡ length text → IsDurable text (D.Disk.seen disk.old) (D.Disk.may_leave disk.old)
-        → (c : List ℕ) → D.Disk.may_leave disk.new c → (slice_index c end ≡ gate_at end) ⊎ (slice_index c end ≡ 123) → IsLog c }
-    ensures faults { IfErr result (λ _. MoreFaults (D.Disk.faults disk.old) (D.Disk.faults disk.new) ⊎ (2 ^ 64 ≤ end + length lines.now + 1)) }
-    ensures fits { OnOk result (end + length lines.now < 2 ^ 64) }
+    requires fits { end + staged + length lines.now < 2 ^ 64 }
+    ensures kept { (text : List ℕ) → end ≡ length text → IsDurable text (D.Disk.seen disk.old) (D.Disk.may_leave disk.old)
+        → IsDurable text (D.Disk.seen disk.new) (D.Disk.may_leave disk.new) }
+    ensures before { end + 1 ≤ length (D.Disk.seen disk.old) → end + staged ≤ length (D.Disk.seen disk.old)
+        → (staged_text (D.Disk.seen disk.new) end staged ≡ staged_text (D.Disk.seen disk.old) end staged) × (end + staged ≤ length (D.Disk.seen disk.new)) }
+    ensures staged { end + 1 ≤ length (D.Disk.seen disk.old) → end + staged ≤ length (D.Disk.seen disk.old)
+        → OnOk result ((staged_text (D.Disk.seen disk.new) end (staged + length lines.now) ≡ staged_text (D.Disk.seen disk.old) end staged ++ lines.now)
+        × (end + (staged + length lines.now) ≤ length (D.Disk.seen disk.new))) }
+    ensures faults { CountsFault result (D.Disk.faults disk.old) (D.Disk.faults disk.new) }
+    ensures usable { IsTrue (D.Disk.is_usable disk.new) }
+    ensures clean { D.Disk.is_clean disk.new ≡ D.Disk.is_clean disk.old }
+{
+    if staged == 0 {
+        disk.write_at(end + 1, &lines[1..])
+    } else {
+        disk.write_at(end + staged, lines)
+    }
+}
+
+// Writes the closed gate behind lines that are staged, and syncs them.
+fn shut_behind<D: Disk>(disk: &mut D, end: usize, staged: usize) -> Result<(), StageError>
+    requires usable { IsTrue (D.Disk.is_usable disk.old) }
+    requires some { 0 < staged }
+    requires fits { end + staged < 2 ^ 64 }
+    ensures kept { (text : List ℕ) → end ≡ length text → IsDurable text (D.Disk.seen disk.old) (D.Disk.may_leave disk.old)
+        → IsDurable text (D.Disk.seen disk.new) (D.Disk.may_leave disk.new) }
+    ensures staged { (text rest : List ℕ) → end ≡ length text → IsDurable text (D.Disk.seen disk.old) (D.Disk.may_leave disk.old)
+        → end + staged ≤ length (D.Disk.seen disk.old) → staged_text (D.Disk.seen disk.old) end staged ≡ 123 ∷ rest
+        → OnOk result (IsStaged text rest (D.Disk.seen disk.new) (D.Disk.may_leave disk.new)) }
+    ensures faults { CountsFault result (D.Disk.faults disk.old) (D.Disk.faults disk.new) }
     ensures usable { IsUsableUnless result (D.Disk.is_usable disk.new) }
     ensures clean { D.Disk.is_clean disk.new ≡ D.Disk.is_clean disk.old }
 {
-    if lines.is_empty() {
+    match disk.write_at(end + staged, b" ") {
+        Ok(()) => {}
+        Err(error) => return Err(StageError::Write(error)),
+    }
+    match disk.sync() {
+        Ok(()) => Ok(()),
+        Err(error) => Err(StageError::Sync(error)),
+    }
+}
+
+// Lets lines count that are staged behind a text of this number of bytes.
+pub(crate) fn finish<D: Disk>(disk: &mut D, end: usize, staged: usize) -> Result<(), StageError>
+    requires usable { IsTrue (D.Disk.is_usable disk.old) }
+    requires fits { end + staged < 2 ^ 64 }
+    ensures added { (text lines : List ℕ) → end ≡ length text → IsDurable text (D.Disk.seen disk.old) (D.Disk.may_leave disk.old)
+        → end + staged ≤ length (D.Disk.seen disk.old) → AreLines lines → lines ≡ staged_text (D.Disk.seen disk.old) end staged
+        → OnOk result (IsDurable (text ++ lines) (D.Disk.seen disk.new) (D.Disk.may_leave disk.new)) }
+    ensures not_kept { (text : List ℕ) → end ≡ length text → IsDurable text (D.Disk.seen disk.old) (D.Disk.may_leave disk.old)
+        → IfErr result (λ why. IsWrite why → IsDurable text (D.Disk.seen disk.new) (D.Disk.may_leave disk.new)) }
+    ensures crash { (text lines : List ℕ) → end ≡ length text → IsDurable text (D.Disk.seen disk.old) (D.Disk.may_leave disk.old)
+        → end + staged ≤ length (D.Disk.seen disk.old) → AreLines lines → lines ≡ staged_text (D.Disk.seen disk.old) end staged
+        → (c : List ℕ) → D.Disk.may_leave disk.new c → IsBeforeOrAfter text lines c }
+    ensures opens { (text lines : List ℕ) → end ≡ length text → IsDurable text (D.Disk.seen disk.old) (D.Disk.may_leave disk.old)
+        → end + staged ≤ length (D.Disk.seen disk.old) → AreLines lines → lines ≡ staged_text (D.Disk.seen disk.old) end staged
+        → (c : List ℕ) → D.Disk.may_leave disk.new c → (slice_index c end ≡ gate_at end) ⊎ (slice_index c end ≡ 123) → IsLog c }
+    ensures faults { IfErr result (λ _. MoreFaults (D.Disk.faults disk.old) (D.Disk.faults disk.new)) }
+    ensures usable { IsUsableUnless result (D.Disk.is_usable disk.new) }
+    ensures clean { D.Disk.is_clean disk.new ≡ D.Disk.is_clean disk.old }
+{
+    if staged == 0 {
         return Ok(());
     }
-    if lines.len() >= usize::MAX - end {
-        return Err(StageError::Write(too_large()));
-    }
-    stage(disk, end, &lines[1..])?;
+    shut_behind(disk, end, staged)?;
     match open_gate(disk, end) {
         Ok(()) => Ok(()),
         Err(error) => Err(StageError::Sync(error)),
     }
+}
+
+pub(crate) fn too_large() -> io::Error {
+    io::ErrorKind::FileTooLarge.into()
 }

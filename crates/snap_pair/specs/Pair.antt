@@ -1,0 +1,63 @@
+-- What two files show, and what calls on them answer.
+use Rattle.std.specs.Prelude.{◌≡◌, ℕ, List, Result, Ok, Err, IsTrue, ⊤}
+use Rattle.sqlite_disk.specs.declared.Disk.{Ghosts}
+use Rattle.snap_log.specs.Log.{disk_of, text_in, IsHonest}
+use Rattle.snap_log.specs.Texts.{IsLog}
+use Rattle.snap_pair.specs.Texts.{counting, pair_text}
+use Rattle.snap_pair.specs.declared.error.PairFailed.{PairFailed}
+use Rattle.snap_pair.specs.declared.error.PairFailed.TheVariants.{NotKept, Unknown}
+use Rattle.snap_pair.specs.declared.error.PairUnopened.{PairUnopened}
+use Rattle.snap_pair.specs.declared.pair.Pair.{Pair}
+
+module _ {D : Type 0} {g : Ghosts D} where
+  -- the lines that count
+  abbrev pub lines_in : Pair D g → List ℕ
+  lines_in p = counting (text_in p.first) (text_in p.second)
+
+  -- the files
+  abbrev pub first_of : Pair D g → D
+  first_of p = disk_of p.first
+
+  abbrev pub second_of : Pair D g → D
+  second_of p = disk_of p.second
+
+  -- no answer of the disks was a lie
+  abbrev pub ArePairHonest : Pair D g → Type 0
+  ArePairHonest p = IsHonest p.first × IsHonest p.second
+
+  -- these lines count, and so they do in each two files that a crash leaves, which are logs
+  pub record PairKeeps (p : Pair D g) (text : List ℕ) : Type 0 where
+    pub now : lines_in p ≡ text
+    pub crash : (c d : List ℕ) → g.may_leave (first_of p) c → g.may_leave (second_of p) d → pair_text c d ≡ text
+    pub first : (c : List ℕ) → g.may_leave (first_of p) c → IsLog c
+    pub second : (d : List ℕ) → g.may_leave (second_of p) d → IsLog d
+
+  -- the files after an opening, whatever it answered
+  abbrev pub first_opened : Result (Pair D g) (PairUnopened D) → D
+  first_opened (Ok p) = first_of p
+  first_opened (Err failed) = failed.first
+
+  abbrev pub second_opened : Result (Pair D g) (PairUnopened D) → D
+  second_opened (Ok p) = second_of p
+  second_opened (Err failed) = failed.second
+
+  -- the files after a call, whatever it answered
+  abbrev pub first_after : Result (Pair D g) (PairFailed D g) → D
+  first_after (Ok p) = first_of p
+  first_after (Err (NotKept p error)) = first_of p
+  first_after (Err (Unknown first second error)) = first
+
+  abbrev pub second_after : Result (Pair D g) (PairFailed D g) → D
+  second_after (Ok p) = second_of p
+  second_after (Err (NotKept p error)) = second_of p
+  second_after (Err (Unknown first second error)) = second
+
+  -- no answer of these was a lie
+  abbrev pub AreHonestAfter : Result (Pair D g) (PairFailed D g) → Type 0
+  AreHonestAfter result = IsTrue (g.is_clean (first_after result)) × IsTrue (g.is_clean (second_after result))
+
+  -- where a write failed, this holds of the files
+  abbrev pub IfPairNotKept : Result (Pair D g) (PairFailed D g) → (Pair D g → Type 0) → Type 0
+  IfPairNotKept (Ok p) P = ⊤
+  IfPairNotKept (Err (NotKept p error)) P = P p
+  IfPairNotKept (Err (Unknown first second error)) P = ⊤

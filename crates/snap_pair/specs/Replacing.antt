@@ -1,0 +1,54 @@
+-- What two files show while lines are written that are to take the place of all others.
+use Rattle.std.specs.Prelude.{◌≡◌, ℕ, if◌then◌else◌, List, Result, Ok, Err, IsTrue, ⊤}
+use Rattle.sqlite_disk.specs.declared.Disk.{Ghosts}
+use Rattle.snap_log.specs.Log.{disk_of, text_in, IsHonest}
+use Rattle.snap_log.specs.Staged.{IsHonestStage, disk_behind, lines_staged}
+use Rattle.snap_pair.specs.Texts.{pair_text}
+use Rattle.snap_pair.specs.declared.error.ReplacingFailed.{ReplacingFailed}
+use Rattle.snap_pair.specs.declared.error.ReplacingFailed.TheVariants.{NotKept, Unknown}
+use Rattle.snap_pair.specs.declared.replacing.Replacing.{Replacing}
+
+module _ {D : Type 0} {g : Ghosts D} where
+  -- the lines that count
+  abbrev pub lines_counting : Replacing D g → List ℕ
+  lines_counting r = text_in r.counting
+
+  -- those that are to take their place
+  abbrev pub lines_coming : Replacing D g → List ℕ
+  lines_coming r = lines_staged r.coming
+
+  -- the files
+  abbrev pub first_in : Replacing D g → D
+  first_in r = if r.is_second then disk_of r.counting else disk_behind r.coming
+
+  abbrev pub second_in : Replacing D g → D
+  second_in r = if r.is_second then disk_behind r.coming else disk_of r.counting
+
+  -- no answer of the disks was a lie
+  abbrev pub AreReplacingHonest : Replacing D g → Type 0
+  AreReplacingHonest r = IsHonest r.counting × IsHonestStage r.coming
+
+  -- a crash leaves the lines that count
+  abbrev pub LeavesCounting : Replacing D g → Type 0
+  LeavesCounting r = (c d : List ℕ) → g.may_leave (first_in r) c → g.may_leave (second_in r) d → pair_text c d ≡ lines_counting r
+
+  -- the files after an addition, whatever it answered
+  abbrev pub first_adding : Result (Replacing D g) (ReplacingFailed D g) → D
+  first_adding (Ok r) = first_in r
+  first_adding (Err (NotKept r error)) = first_in r
+  first_adding (Err (Unknown first second error)) = first
+
+  abbrev pub second_adding : Result (Replacing D g) (ReplacingFailed D g) → D
+  second_adding (Ok r) = second_in r
+  second_adding (Err (NotKept r error)) = second_in r
+  second_adding (Err (Unknown first second error)) = second
+
+  -- no answer of these was a lie
+  abbrev pub AreHonestAdding : Result (Replacing D g) (ReplacingFailed D g) → Type 0
+  AreHonestAdding result = IsTrue (g.is_clean (first_adding result)) × IsTrue (g.is_clean (second_adding result))
+
+  -- where a write failed, this holds of the files
+  abbrev pub IfNotAdded : Result (Replacing D g) (ReplacingFailed D g) → (Replacing D g → Type 0) → Type 0
+  IfNotAdded (Ok r) P = ⊤
+  IfNotAdded (Err (NotKept r error)) P = P r
+  IfNotAdded (Err (Unknown first second error)) P = ⊤

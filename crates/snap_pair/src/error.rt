@@ -1,0 +1,42 @@
+//! Why a call on two files failed.
+use crate::pair::Pair;
+use crate::replacing::Replacing;
+use snap_log::OpenError;
+use sqlite_disk::Disk;
+use std::io;
+
+/// One of the two files.
+#[derive(Clone, Copy, Debug, PartialEq, Eq)]
+pub enum Which {
+    First,
+    Second,
+}
+
+/// Files that were not opened, the one of which it is told, and why.
+#[derive(Drop)]
+pub struct PairUnopened<D> {
+    pub first: D,
+    pub second: D,
+    pub which: Which,
+    pub why: OpenError,
+}
+
+/// Why lines were not added while others are written that are to take their place.
+#[derive(Drop)]
+pub enum ReplacingFailed<D: Disk> {
+    /// A write failed, as on a full disk. All is as it was, and the lines can be added again.
+    NotKept(Replacing<D>, io::Error),
+    /// A sync failed, or the write of the byte by which the lines count. What is on the disk is unknown: the lines that
+    /// count are there, with these or without. Open the files again, in another process where their cache may lie.
+    Unknown(D, D, io::Error),
+}
+
+/// Why a call failed that changes the lines.
+#[derive(Drop)]
+pub enum PairFailed<D: Disk> {
+    /// A write failed, as on a full disk. The lines are as they were, and the call can be made again.
+    NotKept(Pair<D>, io::Error),
+    /// A sync failed, or the write of a byte by which lines count. What is on the disk is unknown: the lines are as they
+    /// were, or as the call makes them. Open the files again, in another process where their cache may lie.
+    Unknown(D, D, io::Error),
+}

@@ -1,0 +1,165 @@
+//! Two files of which one counts.
+ghost use Rattle.std.specs.Prelude.{◌≡◌, ◌⊎◌, ◌+◌, ◌<◌, ◌≤◌, ℕ, List, [], ◌++◌, length, take, drop, Err, IfOk, IfErr, OnOk, IsTrue};
+ghost use Rattle.snap_log.specs.Texts.{log_text, AreLines};
+ghost use Rattle.snap_pair.specs.Texts.{pair_text};
+
+use crate::error::{PairFailed, PairUnopened, Which};
+use crate::replacing::Replacing;
+use snap_log::{AppendFailed, ClearFailed, Log, OpenFailed};
+use sqlite_disk::Disk;
+use std::io;
+
+/// A log in two files. The second one counts where it has a line, else the first one.
+///
+/// What its clauses say of lines holds as long as no answer of the disks was a lie (`ArePairHonest`).
+#[derive(Drop)]
+pub struct Pair<D: Disk> {
+    first: Log<D>,
+    second: Log<D>,
+}
+
+impl<D: Disk> Pair<D> {
+    ghost use Rattle.snap_pair.specs.Pair.{ArePairHonest, AreHonestAfter, IfPairNotKept, PairKeeps, first_after, first_of, first_opened, lines_in, second_after, second_of, second_opened};
+    ghost use Rattle.snap_pair.specs.Replacing.{AreReplacingHonest, LeavesCounting, lines_coming, lines_counting};
+
+    /// Opens two files as one log.
+    ///
+    /// The errors of [`Log::open`] with the file that they are about; both files are then as they were, but for a first
+    /// closed gate. Cost and memory are those of these calls.
+    pub fn open(first: D, second: D) -> Result<Pair<D>, PairUnopened<D>>
+        requires first { IsTrue (D.Disk.is_usable first) }
+        requires second { IsTrue (D.Disk.is_usable second) }
+        ensures text { IfOk result (λ pair. ArePairHonest pair → PairKeeps pair (pair_text (D.Disk.seen first) (D.Disk.seen second))) }
+        // Whatever the call answers, a crash leaves each file's text, or a file that could be left before.
+        ensures first_crash { IsTrue (D.Disk.is_clean (first_opened result)) → (c : List ℕ) → D.Disk.may_leave (first_opened result) c
+            → D.Disk.may_leave first c ⊎ (log_text c ≡ log_text (D.Disk.seen first)) }
+        ensures second_crash { IsTrue (D.Disk.is_clean (second_opened result)) → (d : List ℕ) → D.Disk.may_leave (second_opened result) d
+            → D.Disk.may_leave second d ⊎ (log_text d ≡ log_text (D.Disk.seen second)) }
+    {
+        let first = match Log::open(first) {
+            Ok(first) => first,
+            Err(OpenFailed { disk, why }) => return Err(PairUnopened {
+                first: disk,
+                second,
+                which: Which::First,
+                why,
+            }),
+        };
+        match Log::open(second) {
+            Ok(second) => Ok(Pair { first, second }),
+            Err(OpenFailed { disk, why }) => Err(PairUnopened {
+                first: first.into_disk(),
+                second: disk,
+                which: Which::Second,
+                why,
+            }),
+        }
+    }
+
+    /// How many bytes the lines have that count. Takes no memory.
+    pub fn len(&self) -> usize
+        ensures { ArePairHonest self.now → result ≡ length (lines_in self.now) }
+    {
+        if self.second.is_empty() {
+            self.first.len()
+        } else {
+            self.second.len()
+        }
+    }
+
+    /// Whether no line counts. Takes no memory.
+    pub fn is_empty(&self) -> bool
+        ensures { ArePairHonest self.now → IsTrue result → lines_in self.now ≡ [] }
+    {
+        self.first.is_empty() && self.second.is_empty()
+    }
+
+    /// Reads bytes of the lines that count from a place on, as many as the buffer has. As [`Log::read_at`].
+    pub fn read_at(&mut self, at: usize, buf: &mut [u8]) -> io::Result<()>
+        requires some { 0 < length buf.old }
+        ensures read { OnOk result (ArePairHonest self.new → at + length buf.old ≤ length (lines_in self.old) → buf.new ≡ take (length buf.old) (drop at (lines_in self.old))) }
+        ensures lines { lines_in self.new ≡ lines_in self.old }
+        ensures first_crash { (c : List ℕ) → D.Disk.may_leave (first_of self.new) c → D.Disk.may_leave (first_of self.old) c }
+        ensures second_crash { (d : List ℕ) → D.Disk.may_leave (second_of self.new) d → D.Disk.may_leave (second_of self.old) d }
+        ensures clean { ArePairHonest self.new → ArePairHonest self.old }
+    {
+        if self.second.is_empty() {
+            self.first.read_at(at, buf)
+        } else {
+            self.second.read_at(at, buf)
+        }
+    }
+
+    /// The two files. Takes no memory, and calls no disk.
+    pub fn into_disks(self) -> (D, D)
+        ensures first { result.0 ≡ first_of self }
+        ensures second { result.1 ≡ second_of self }
+    {
+        let Pair { first, second } = self;
+        (first.into_disk(), second.into_disk())
+    }
+
+    /// Adds whole lines behind those that count, as one: a crash at any moment leaves all of them or none.
+    ///
+    /// As [`Log::append`] of the file that counts.
+    pub fn append(self, lines: &[u8]) -> Result<Pair<D>, PairFailed<D>>
+        requires lines { AreLines lines.now }
+        ensures added { IfOk result (λ pair. ArePairHonest pair → PairKeeps pair (lines_in self ++ lines.now)) }
+        ensures not_kept { IfPairNotKept result (λ pair. ArePairHonest pair → PairKeeps pair (lines_in self)) }
+        // Whatever the call answers, a crash leaves all of the lines or none.
+        ensures crash { AreHonestAfter result → (c d : List ℕ) → D.Disk.may_leave (first_after result) c → D.Disk.may_leave (second_after result) d
+            → (pair_text c d ≡ lines_in self) ⊎ (pair_text c d ≡ lines_in self ++ lines.now) }
+        ensures clean { AreHonestAfter result → ArePairHonest self }
+    {
+        let Pair { first, second } = self;
+        if second.is_empty() {
+            return match first.append(lines) {
+                Ok(first) => Ok(Pair { first, second }),
+                Err(AppendFailed::NotKept(first, error)) => {
+                    Err(PairFailed::NotKept(Pair { first, second }, error))
+                }
+                Err(AppendFailed::Unknown(first, error)) => {
+                    Err(PairFailed::Unknown(first, second.into_disk(), error))
+                }
+            };
+        }
+        match second.append(lines) {
+            Ok(second) => Ok(Pair { first, second }),
+            Err(AppendFailed::NotKept(second, error)) => {
+                Err(PairFailed::NotKept(Pair { first, second }, error))
+            }
+            Err(AppendFailed::Unknown(second, error)) => {
+                Err(PairFailed::Unknown(first.into_disk(), second, error))
+            }
+        }
+    }
+
+    // Of these two.
+    pub(crate) fn of(first: Log<D>, second: Log<D>) -> Pair<D>
+        ensures { result ≡ record { first = first; second = second } }
+    {
+        Pair { first, second }
+    }
+
+    /// Begins to write lines that are to take the place of all others.
+    ///
+    /// `Unknown` where the file that doesn't count couldn't be cleared, by [`Log::clear`]: those that count are there. Takes
+    /// no memory.
+    pub fn replace(self) -> Result<Replacing<D>, PairFailed<D>>
+        ensures begun { IfOk result (λ replacing. AreReplacingHonest replacing → (lines_counting replacing ≡ lines_in self) × (lines_coming replacing ≡ []) × LeavesCounting replacing × ArePairHonest self) }
+        ensures crash { IfErr result (λ why. AreHonestAfter (Err why) → (c d : List ℕ) → D.Disk.may_leave (first_after (Err why)) c → D.Disk.may_leave (second_after (Err why)) d
+            → pair_text c d ≡ lines_in self) }
+        ensures clean { IfErr result (λ why. AreHonestAfter (Err why) → ArePairHonest self) }
+    {
+        let Pair { first, second } = self;
+        if second.is_empty() {
+            return Ok(Replacing::in_second(first, second));
+        }
+        match first.clear() {
+            Ok(first) => Ok(Replacing::in_first(first, second)),
+            Err(ClearFailed { disk, error }) => {
+                Err(PairFailed::Unknown(disk, second.into_disk(), error))
+            }
+        }
+    }
+}

@@ -1,0 +1,163 @@
+//! Lines that are to take the place of all others.
+ghost use Rattle.std.specs.Prelude.{◌≡◌, ◌≢◌, ◌⊎◌, ◌<◌, ℕ, Bool, false, true, List, [], ◌++◌, length, IfOk, IfErr, OnErr, OnOk, IsTrue};
+ghost use Rattle.snap_log.specs.Log.{IsHonest, text_in};
+ghost use Rattle.snap_log.specs.Staged.{IsHonestStage, lines_staged, text_before};
+ghost use Rattle.snap_log.specs.Texts.{log_text, AreLines};
+ghost use Rattle.snap_pair.specs.Texts.{pair_text};
+
+use crate::error::{PairFailed, ReplacingFailed};
+use crate::finish::{finish_first, finish_second};
+use crate::pair::Pair;
+use snap_log::{AppendFailed, Appending, Log};
+use sqlite_disk::Disk;
+use std::io;
+
+/// Two files of which one counts, and lines that are written into the other one.
+///
+/// What its clauses say of lines holds as long as no answer of the disks was a lie (`AreReplacingHonest`).
+#[derive(Drop)]
+pub struct Replacing<D: Disk> {
+    // The file that counts.
+    counting: Log<D>,
+    // The other one.
+    coming: Appending<D>,
+    // Whether that is the second one.
+    is_second: bool,
+    ghost none: { IsHonestStage coming → text_before coming ≡ [] },
+    ghost some: { IsHonest counting → is_second ≡ false → 0 < length (text_in counting) },
+}
+
+impl<D: Disk> Replacing<D> {
+    ghost use Rattle.snap_pair.specs.Pair.{ArePairHonest, AreHonestAfter, IfPairNotKept, PairKeeps, first_after, second_after};
+    ghost use Rattle.snap_pair.specs.Replacing.{AreHonestAdding, AreReplacingHonest, IfNotAdded, LeavesCounting, first_adding, lines_coming, lines_counting, second_adding};
+
+    // Lines are to take the place of those that count, which stand in the first file.
+    pub(crate) fn in_second(first: Log<D>, second: Log<D>) -> Replacing<D>
+        requires none { IsHonest second → text_in second ≡ [] }
+        ensures counting { lines_counting result ≡ text_in first }
+        ensures none { lines_coming result ≡ [] }
+        ensures honest { AreReplacingHonest result → IsHonest first × IsHonest second }
+        ensures crash { AreReplacingHonest result → LeavesCounting result }
+    {
+        Replacing {
+            counting: first,
+            coming: second.begin_append(),
+            is_second: true,
+        }
+    }
+
+    // Those that count stand in the second one.
+    pub(crate) fn in_first(first: Log<D>, second: Log<D>) -> Replacing<D>
+        requires none { IsHonest first → text_in first ≡ [] }
+        requires some { IsHonest second → 0 < length (text_in second) }
+        ensures counting { lines_counting result ≡ text_in second }
+        ensures none { lines_coming result ≡ [] }
+        ensures honest { AreReplacingHonest result → IsHonest first × IsHonest second }
+        ensures crash { AreReplacingHonest result → LeavesCounting result }
+    {
+        Replacing {
+            counting: second,
+            coming: first.begin_append(),
+            is_second: false,
+        }
+    }
+
+    /// Writes whole lines behind those that are to take the place of the others.
+    ///
+    /// As [`Appending::push`]: an error where a write failed, and those lines are then as they were.
+    pub fn push(&mut self, lines: &[u8]) -> io::Result<()>
+        requires lines { AreLines lines.now }
+        ensures pushed { OnOk result (AreReplacingHonest self.new → lines_coming self.new ≡ lines_coming self.old ++ lines.now) }
+        ensures left { OnErr result (AreReplacingHonest self.new → lines_coming self.new ≡ lines_coming self.old) }
+        ensures counting { lines_counting self.new ≡ lines_counting self.old }
+        ensures crash { AreReplacingHonest self.new → LeavesCounting self.new }
+        ensures clean { AreReplacingHonest self.new → AreReplacingHonest self.old }
+    {
+        self.coming.push(lines)
+    }
+
+    /// Adds whole lines behind those that count, as one, as [`Pair::append`]. They aren't among those that come.
+    pub fn append(self, lines: &[u8]) -> Result<Replacing<D>, ReplacingFailed<D>>
+        requires lines { AreLines lines.now }
+        ensures added { IfOk result (λ replacing. AreReplacingHonest replacing → (lines_counting replacing ≡ lines_counting self ++ lines.now)
+            × (lines_coming replacing ≡ lines_coming self) × LeavesCounting replacing) }
+        ensures not_kept { IfNotAdded result (λ replacing. AreReplacingHonest replacing → (lines_counting replacing ≡ lines_counting self)
+            × (lines_coming replacing ≡ lines_coming self) × LeavesCounting replacing) }
+        // Whatever the call answers, a crash leaves all of the lines or none.
+        ensures crash { AreHonestAdding result → (c d : List ℕ) → D.Disk.may_leave (first_adding result) c → D.Disk.may_leave (second_adding result) d
+            → (pair_text c d ≡ lines_counting self) ⊎ (pair_text c d ≡ lines_counting self ++ lines.now) }
+        ensures clean { AreHonestAdding result → AreReplacingHonest self }
+    {
+        let Replacing {
+            counting,
+            coming,
+            is_second,
+        } = self;
+        match counting.append(lines) {
+            Ok(counting) => Ok(Replacing {
+                counting,
+                coming,
+                is_second,
+            }),
+            Err(AppendFailed::NotKept(counting, error)) => Err(ReplacingFailed::NotKept(
+                Replacing {
+                    counting,
+                    coming,
+                    is_second,
+                },
+                error,
+            )),
+            Err(AppendFailed::Unknown(disk, error)) => {
+                let other = coming.give_up().into_disk();
+                if is_second {
+                    Err(ReplacingFailed::Unknown(disk, other, error))
+                } else {
+                    Err(ReplacingFailed::Unknown(other, disk, error))
+                }
+            }
+        }
+    }
+
+    /// Lets the lines that were written take the place of all others, as one: a crash at any moment leaves these or those.
+    ///
+    /// At `Ok` they are on the disk, and each later crash leaves them alone. `NotKept` where the write of the closed gate
+    /// behind them failed: those that counted count. `Unknown` where a sync failed, or the write of a byte by which lines
+    /// count. Three syncs, four writes, or two and two; no memory.
+    pub fn finish(self) -> Result<Pair<D>, PairFailed<D>>
+        requires some { AreReplacingHonest self → 0 < length (lines_coming self) }
+        ensures replaced { IfOk result (λ pair. ArePairHonest pair → PairKeeps pair (lines_coming self)) }
+        ensures not_kept { IfPairNotKept result (λ pair. ArePairHonest pair → PairKeeps pair (lines_counting self)) }
+        // Whatever the call answers, a crash leaves these lines or those.
+        ensures crash { AreHonestAfter result → (c d : List ℕ) → D.Disk.may_leave (first_after result) c → D.Disk.may_leave (second_after result) d
+            → (pair_text c d ≡ lines_counting self) ⊎ (pair_text c d ≡ lines_coming self) }
+        ensures clean { AreHonestAfter result → AreReplacingHonest self }
+    {
+        let Replacing {
+            counting,
+            coming,
+            is_second,
+        } = self;
+        if is_second {
+            finish_second(counting, coming)
+        } else {
+            finish_first(coming, counting)
+        }
+    }
+
+    /// The log without these lines. Takes no memory, and calls no disk.
+    pub fn give_up(self) -> Pair<D>
+        ensures kept { ArePairHonest result → PairKeeps result (lines_counting self) }
+        ensures clean { ArePairHonest result → AreReplacingHonest self }
+    {
+        let Replacing {
+            counting,
+            coming,
+            is_second,
+        } = self;
+        if is_second {
+            Pair::of(counting, coming.give_up())
+        } else {
+            Pair::of(coming.give_up(), counting)
+        }
+    }
+}
