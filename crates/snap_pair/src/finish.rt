@@ -1,5 +1,5 @@
 // Lines that were written take the place of all others.
-ghost use Rattle.std.specs.Prelude.{◌≡◌, ◌⊎◌, ◌<◌, ℕ, List, [], length, IfOk};
+ghost use Rattle.std.specs.Prelude.{◌≡◌, ◌⊎◌, ◌<◌, ℕ, List, [], length, IfOk, IsTrue};
 ghost use Rattle.snap_log.specs.Log.{IsHonest, text_in};
 ghost use Rattle.snap_log.specs.Staged.{IsHonestStage, lines_staged, text_before};
 ghost use Rattle.snap_pair.specs.Pair.{AreHonestAfter, ArePairHonest, IfPairNotKept, PairKeeps, first_after, second_after};
@@ -22,6 +22,9 @@ pub(crate) fn finish_second<D: Disk>(
     ensures crash { AreHonestAfter result → (c d : List ℕ) → D.Disk.may_leave (first_after result) c → D.Disk.may_leave (second_after result) d
         → (pair_text c d ≡ text_in first) ⊎ (pair_text c d ≡ lines_staged coming) }
     ensures clean { AreHonestAfter result → IsHonest first × IsHonestStage coming }
+    // Each file stays the one that it was.
+    ensures first { IsTrue (D.Disk.is_clean (first_after result)) → IsHonest first }
+    ensures second { IsTrue (D.Disk.is_clean (second_after result)) → IsHonestStage coming }
 {
     match coming.finish() {
         Ok(second) => Ok(Pair::of(first, second)),
@@ -46,6 +49,9 @@ pub(crate) fn finish_first<D: Disk>(
     ensures crash { AreHonestAfter result → (c d : List ℕ) → D.Disk.may_leave (first_after result) c → D.Disk.may_leave (second_after result) d
         → (pair_text c d ≡ text_in second) ⊎ (pair_text c d ≡ lines_staged coming) }
     ensures clean { AreHonestAfter result → IsHonest second × IsHonestStage coming }
+    // Each file stays the one that it was.
+    ensures first { IsTrue (D.Disk.is_clean (first_after result)) → IsHonestStage coming }
+    ensures second { IsTrue (D.Disk.is_clean (second_after result)) → IsHonest second }
 {
     let first = match coming.finish() {
         Ok(first) => first,

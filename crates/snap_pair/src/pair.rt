@@ -20,7 +20,7 @@ pub struct Pair<D: Disk> {
 
 impl<D: Disk> Pair<D> {
     ghost use Rattle.snap_pair.specs.Pair.{ArePairHonest, AreHonestAfter, IfPairNotKept, PairKeeps, first_after, first_of, first_opened, lines_in, second_after, second_of, second_opened};
-    ghost use Rattle.snap_pair.specs.Replacing.{AreReplacingHonest, LeavesCounting, lines_coming, lines_counting};
+    ghost use Rattle.snap_pair.specs.Replacing.{AreReplacingHonest, LeavesCounting, first_in, lines_coming, lines_counting, second_in};
 
     /// Opens two files as one log.
     ///
@@ -110,6 +110,9 @@ impl<D: Disk> Pair<D> {
         ensures crash { AreHonestAfter result → (c d : List ℕ) → D.Disk.may_leave (first_after result) c → D.Disk.may_leave (second_after result) d
             → (pair_text c d ≡ lines_in self) ⊎ (pair_text c d ≡ lines_in self ++ lines.now) }
         ensures clean { AreHonestAfter result → ArePairHonest self }
+        // Each file stays the one that it was.
+        ensures first { IsTrue (D.Disk.is_clean (first_after result)) → IsTrue (D.Disk.is_clean (first_of self)) }
+        ensures second { IsTrue (D.Disk.is_clean (second_after result)) → IsTrue (D.Disk.is_clean (second_of self)) }
     {
         let Pair { first, second } = self;
         if second.is_empty() {
@@ -150,6 +153,11 @@ impl<D: Disk> Pair<D> {
         ensures crash { IfErr result (λ why. AreHonestAfter (Err why) → (c d : List ℕ) → D.Disk.may_leave (first_after (Err why)) c → D.Disk.may_leave (second_after (Err why)) d
             → pair_text c d ≡ lines_in self) }
         ensures clean { IfErr result (λ why. AreHonestAfter (Err why) → ArePairHonest self) }
+        // Each file stays the one that it was.
+        ensures first { (IfOk result (λ replacing. IsTrue (D.Disk.is_clean (first_in replacing)) → IsTrue (D.Disk.is_clean (first_of self))))
+            × (IfErr result (λ why. IsTrue (D.Disk.is_clean (first_after (Err why))) → IsTrue (D.Disk.is_clean (first_of self)))) }
+        ensures second { (IfOk result (λ replacing. IsTrue (D.Disk.is_clean (second_in replacing)) → IsTrue (D.Disk.is_clean (second_of self))))
+            × (IfErr result (λ why. IsTrue (D.Disk.is_clean (second_after (Err why))) → IsTrue (D.Disk.is_clean (second_of self)))) }
     {
         let Pair { first, second } = self;
         if second.is_empty() {

@@ -1,6 +1,6 @@
 //! Lines that are to take the place of all others.
 ghost use Rattle.std.specs.Prelude.{◌≡◌, ◌≢◌, ◌⊎◌, ◌<◌, ℕ, Bool, false, true, List, [], ◌++◌, length, IfOk, IfErr, OnErr, OnOk, IsTrue};
-ghost use Rattle.snap_log.specs.Log.{IsHonest, text_in};
+ghost use Rattle.snap_log.specs.Log.{IsHonest, disk_of, text_in};
 ghost use Rattle.snap_log.specs.Staged.{IsHonestStage, lines_staged, text_before};
 ghost use Rattle.snap_log.specs.Texts.{log_text, AreLines};
 ghost use Rattle.snap_pair.specs.Texts.{pair_text};
@@ -28,8 +28,8 @@ pub struct Replacing<D: Disk> {
 }
 
 impl<D: Disk> Replacing<D> {
-    ghost use Rattle.snap_pair.specs.Pair.{ArePairHonest, AreHonestAfter, IfPairNotKept, PairKeeps, first_after, second_after};
-    ghost use Rattle.snap_pair.specs.Replacing.{AreHonestAdding, AreReplacingHonest, IfNotAdded, LeavesCounting, first_adding, lines_coming, lines_counting, second_adding};
+    ghost use Rattle.snap_pair.specs.Pair.{ArePairHonest, AreHonestAfter, IfPairNotKept, PairKeeps, first_after, first_of, second_after, second_of};
+    ghost use Rattle.snap_pair.specs.Replacing.{AreHonestAdding, AreReplacingHonest, IfNotAdded, LeavesCounting, first_adding, first_in, lines_coming, lines_counting, second_adding, second_in};
 
     // Lines are to take the place of those that count, which stand in the first file.
     pub(crate) fn in_second(first: Log<D>, second: Log<D>) -> Replacing<D>
@@ -38,6 +38,8 @@ impl<D: Disk> Replacing<D> {
         ensures none { lines_coming result ≡ [] }
         ensures honest { AreReplacingHonest result → IsHonest first × IsHonest second }
         ensures crash { AreReplacingHonest result → LeavesCounting result }
+        ensures first { first_in result ≡ disk_of first }
+        ensures second { second_in result ≡ disk_of second }
     {
         Replacing {
             counting: first,
@@ -54,6 +56,8 @@ impl<D: Disk> Replacing<D> {
         ensures none { lines_coming result ≡ [] }
         ensures honest { AreReplacingHonest result → IsHonest first × IsHonest second }
         ensures crash { AreReplacingHonest result → LeavesCounting result }
+        ensures first { first_in result ≡ disk_of first }
+        ensures second { second_in result ≡ disk_of second }
     {
         Replacing {
             counting: second,
@@ -72,6 +76,9 @@ impl<D: Disk> Replacing<D> {
         ensures counting { lines_counting self.new ≡ lines_counting self.old }
         ensures crash { AreReplacingHonest self.new → LeavesCounting self.new }
         ensures clean { AreReplacingHonest self.new → AreReplacingHonest self.old }
+        // Each file stays the one that it was.
+        ensures first { IsTrue (D.Disk.is_clean (first_in self.new)) → IsTrue (D.Disk.is_clean (first_in self.old)) }
+        ensures second { IsTrue (D.Disk.is_clean (second_in self.new)) → IsTrue (D.Disk.is_clean (second_in self.old)) }
     {
         self.coming.push(lines)
     }
@@ -87,6 +94,9 @@ impl<D: Disk> Replacing<D> {
         ensures crash { AreHonestAdding result → (c d : List ℕ) → D.Disk.may_leave (first_adding result) c → D.Disk.may_leave (second_adding result) d
             → (pair_text c d ≡ lines_counting self) ⊎ (pair_text c d ≡ lines_counting self ++ lines.now) }
         ensures clean { AreHonestAdding result → AreReplacingHonest self }
+        // Each file stays the one that it was.
+        ensures first { IsTrue (D.Disk.is_clean (first_adding result)) → IsTrue (D.Disk.is_clean (first_in self)) }
+        ensures second { IsTrue (D.Disk.is_clean (second_adding result)) → IsTrue (D.Disk.is_clean (second_in self)) }
     {
         let Replacing {
             counting,
@@ -131,6 +141,9 @@ impl<D: Disk> Replacing<D> {
         ensures crash { AreHonestAfter result → (c d : List ℕ) → D.Disk.may_leave (first_after result) c → D.Disk.may_leave (second_after result) d
             → (pair_text c d ≡ lines_counting self) ⊎ (pair_text c d ≡ lines_coming self) }
         ensures clean { AreHonestAfter result → AreReplacingHonest self }
+        // Each file stays the one that it was.
+        ensures first { IsTrue (D.Disk.is_clean (first_after result)) → IsTrue (D.Disk.is_clean (first_in self)) }
+        ensures second { IsTrue (D.Disk.is_clean (second_after result)) → IsTrue (D.Disk.is_clean (second_in self)) }
     {
         let Replacing {
             counting,
@@ -148,6 +161,8 @@ impl<D: Disk> Replacing<D> {
     pub fn give_up(self) -> Pair<D>
         ensures kept { ArePairHonest result → PairKeeps result (lines_counting self) }
         ensures clean { ArePairHonest result → AreReplacingHonest self }
+        ensures first { first_of result ≡ first_in self }
+        ensures second { second_of result ≡ second_in self }
     {
         let Replacing {
             counting,
