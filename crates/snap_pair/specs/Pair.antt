@@ -1,13 +1,25 @@
 -- What two files show, and what calls on them answer.
-use Rattle.std.specs.Prelude.{◌≡◌, ℕ, List, Result, Ok, Err, IsTrue, ⊤}
+use Rattle.std.specs.Prelude.{◌≡◌, ◌⊎◌, ℕ, List, Result, Ok, Err, IsTrue, ⊤}
+use Rattle.sqlite_disk.specs.Disk.{MoreFaults}
 use Rattle.sqlite_disk.specs.declared.Disk.{Ghosts}
 use Rattle.snap_log.specs.Log.{disk_of, text_in, IsHonest}
 use Rattle.snap_log.specs.Texts.{IsLog}
 use Rattle.snap_pair.specs.Texts.{counting, pair_text}
+use Rattle.snap_pair.specs.declared.error.Which.{Which}
+use Rattle.snap_pair.specs.declared.error.Which.TheVariants.{First, Second}
 use Rattle.snap_pair.specs.declared.error.PairFailed.{PairFailed}
 use Rattle.snap_pair.specs.declared.error.PairFailed.TheVariants.{NotKept, Unknown}
 use Rattle.snap_pair.specs.declared.error.PairUnopened.{PairUnopened}
 use Rattle.snap_pair.specs.declared.pair.Pair.{Pair}
+
+-- this one of two files
+abbrev pub file_of : {D : Type 0} → Which → D → D → D
+file_of First first second = first
+file_of Second first second = second
+
+-- a call of one of two files has failed, by their counts of failed calls
+abbrev pub OneFailed : {D : Type 0} → (D → ℕ) → D → D → D → D → Type 0
+OneFailed faults first second first_then second_then = MoreFaults (faults first) (faults first_then) ⊎ MoreFaults (faults second) (faults second_then)
 
 module _ {D : Type 0} {g : Ghosts D} where
   -- the lines that count

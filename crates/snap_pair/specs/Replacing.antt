@@ -4,6 +4,7 @@ use Rattle.sqlite_disk.specs.declared.Disk.{Ghosts}
 use Rattle.snap_log.specs.Log.{disk_of, text_in, IsHonest}
 use Rattle.snap_log.specs.Staged.{IsHonestStage, disk_behind, lines_staged}
 use Rattle.snap_pair.specs.Texts.{pair_text}
+use Rattle.snap_pair.specs.declared.error.ReplaceFailed.{ReplaceFailed}
 use Rattle.snap_pair.specs.declared.error.ReplacingFailed.{ReplacingFailed}
 use Rattle.snap_pair.specs.declared.error.ReplacingFailed.TheVariants.{NotKept, Unknown}
 use Rattle.snap_pair.specs.declared.replacing.Replacing.{Replacing}
@@ -31,6 +32,19 @@ module _ {D : Type 0} {g : Ghosts D} where
   -- a crash leaves the lines that count
   abbrev pub LeavesCounting : Replacing D g → Type 0
   LeavesCounting r = (c d : List ℕ) → g.may_leave (first_in r) c → g.may_leave (second_in r) d → pair_text c d ≡ lines_counting r
+
+  -- the files after `replace`, whatever it answered
+  abbrev pub first_replaced : Result (Replacing D g) (ReplaceFailed D) → D
+  first_replaced (Ok r) = first_in r
+  first_replaced (Err failed) = failed.first
+
+  abbrev pub second_replaced : Result (Replacing D g) (ReplaceFailed D) → D
+  second_replaced (Ok r) = second_in r
+  second_replaced (Err failed) = failed.second
+
+  -- no answer of these was a lie
+  abbrev pub AreHonestReplaced : Result (Replacing D g) (ReplaceFailed D) → Type 0
+  AreHonestReplaced result = IsTrue (g.is_clean (first_replaced result)) × IsTrue (g.is_clean (second_replaced result))
 
   -- the files after an addition, whatever it answered
   abbrev pub first_adding : Result (Replacing D g) (ReplacingFailed D g) → D

@@ -21,6 +21,16 @@ pub struct PairUnopened<D> {
     pub why: OpenError,
 }
 
+/// Two files in which no line can take the place of others, and why. The one that doesn't count couldn't be cleared, and
+/// what is on the disk is unknown: the lines that count are there. Open the files again, in another process where their
+/// cache may lie.
+#[derive(Drop)]
+pub struct ReplaceFailed<D> {
+    pub first: D,
+    pub second: D,
+    pub error: io::Error,
+}
+
 /// Why lines were not added while others are written that are to take their place.
 #[derive(Drop)]
 pub enum ReplacingFailed<D: Disk> {

@@ -1,8 +1,8 @@
 // Lines that were written take the place of all others.
-ghost use Rattle.std.specs.Prelude.{◌≡◌, ◌⊎◌, ◌<◌, ℕ, List, [], length, IfOk, IsTrue};
-ghost use Rattle.snap_log.specs.Log.{IsHonest, text_in};
-ghost use Rattle.snap_log.specs.Staged.{IsHonestStage, lines_staged, text_before};
-ghost use Rattle.snap_pair.specs.Pair.{AreHonestAfter, ArePairHonest, IfPairNotKept, PairKeeps, first_after, second_after};
+ghost use Rattle.std.specs.Prelude.{◌≡◌, ◌⊎◌, ◌<◌, ℕ, List, [], length, IfErr, IfOk, IsTrue};
+ghost use Rattle.snap_log.specs.Log.{IsHonest, disk_of, text_in};
+ghost use Rattle.snap_log.specs.Staged.{IsHonestStage, disk_behind, lines_staged, text_before};
+ghost use Rattle.snap_pair.specs.Pair.{AreHonestAfter, ArePairHonest, IfPairNotKept, OneFailed, PairKeeps, first_after, second_after};
 ghost use Rattle.snap_pair.specs.Texts.{pair_text};
 
 use crate::error::PairFailed;
@@ -21,6 +21,7 @@ pub(crate) fn finish_second<D: Disk>(
     ensures not_kept { IfPairNotKept result (λ pair. ArePairHonest pair → PairKeeps pair (text_in first)) }
     ensures crash { AreHonestAfter result → (c d : List ℕ) → D.Disk.may_leave (first_after result) c → D.Disk.may_leave (second_after result) d
         → (pair_text c d ≡ text_in first) ⊎ (pair_text c d ≡ lines_staged coming) }
+    ensures faults { IfErr result (λ _. OneFailed D.Disk.faults (disk_of first) (disk_behind coming) (first_after result) (second_after result)) }
     ensures clean { AreHonestAfter result → IsHonest first × IsHonestStage coming }
     // Each file stays the one that it was.
     ensures first { IsTrue (D.Disk.is_clean (first_after result)) → IsHonest first }
@@ -48,6 +49,7 @@ pub(crate) fn finish_first<D: Disk>(
     ensures not_kept { IfPairNotKept result (λ pair. ArePairHonest pair → PairKeeps pair (text_in second)) }
     ensures crash { AreHonestAfter result → (c d : List ℕ) → D.Disk.may_leave (first_after result) c → D.Disk.may_leave (second_after result) d
         → (pair_text c d ≡ text_in second) ⊎ (pair_text c d ≡ lines_staged coming) }
+    ensures faults { IfErr result (λ _. OneFailed D.Disk.faults (disk_behind coming) (disk_of second) (first_after result) (second_after result)) }
     ensures clean { AreHonestAfter result → IsHonest second × IsHonestStage coming }
     // Each file stays the one that it was.
     ensures first { IsTrue (D.Disk.is_clean (first_after result)) → IsHonestStage coming }

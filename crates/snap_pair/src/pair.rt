@@ -1,9 +1,11 @@
 //! Two files of which one counts.
-ghost use Rattle.std.specs.Prelude.{◌≡◌, ◌⊎◌, ◌+◌, ◌<◌, ◌≤◌, ℕ, List, [], ◌++◌, length, take, drop, Err, IfOk, IfErr, OnOk, IsTrue};
+ghost use Rattle.std.specs.Prelude.{◌≡◌, ◌⊎◌, ◌+◌, ◌<◌, ◌≤◌, ◌^◌, ℕ, false, List, [], ◌++◌, length, take, drop, IfOk, IfErr, OnOk, IsTrue};
+ghost use Rattle.sqlite_disk.specs.Disk.{MoreFaults};
+ghost use Rattle.snap_log.specs.Opening.{FailsFor, IsRefusedFile, RefusesFile};
 ghost use Rattle.snap_log.specs.Texts.{log_text, AreLines};
 ghost use Rattle.snap_pair.specs.Texts.{pair_text};
 
-use crate::error::{PairFailed, PairUnopened, Which};
+use crate::error::{PairFailed, PairUnopened, ReplaceFailed, Which};
 use crate::replacing::Replacing;
 use snap_log::{AppendFailed, ClearFailed, Log, OpenFailed};
 use sqlite_disk::Disk;
@@ -19,8 +21,8 @@ pub struct Pair<D: Disk> {
 }
 
 impl<D: Disk> Pair<D> {
-    ghost use Rattle.snap_pair.specs.Pair.{ArePairHonest, AreHonestAfter, IfPairNotKept, PairKeeps, first_after, first_of, first_opened, lines_in, second_after, second_of, second_opened};
-    ghost use Rattle.snap_pair.specs.Replacing.{AreReplacingHonest, LeavesCounting, first_in, lines_coming, lines_counting, second_in};
+    ghost use Rattle.snap_pair.specs.Pair.{ArePairHonest, AreHonestAfter, IfPairNotKept, OneFailed, PairKeeps, file_of, first_after, first_of, first_opened, lines_in, second_after, second_of, second_opened};
+    ghost use Rattle.snap_pair.specs.Replacing.{AreHonestReplaced, AreReplacingHonest, LeavesCounting, first_replaced, lines_coming, lines_counting, second_replaced};
 
     /// Opens two files as one log.
     ///
@@ -30,6 +32,11 @@ impl<D: Disk> Pair<D> {
         requires first { IsTrue (D.Disk.is_usable first) }
         requires second { IsTrue (D.Disk.is_usable second) }
         ensures text { IfOk result (λ pair. ArePairHonest pair → PairKeeps pair (pair_text (D.Disk.seen first) (D.Disk.seen second))) }
+        // Of the file of which it is told.
+        ensures refused { IfErr result (λ e. IsTrue (D.Disk.is_clean (file_of e.which e.first e.second)) → RefusesFile e.why (D.Disk.seen (file_of e.which first second))) }
+        ensures unchanged { IfErr result (λ e. IsRefusedFile e.why → D.Disk.seen (file_of e.which e.first e.second) ≡ D.Disk.seen (file_of e.which first second)) }
+        ensures faults { IfErr result (λ e. IsTrue (D.Disk.is_clean (file_of e.which e.first e.second))
+            → FailsFor e.why (MoreFaults (D.Disk.faults (file_of e.which first second)) (D.Disk.faults (file_of e.which e.first e.second)))) }
         // Whatever the call answers, a crash leaves each file's text, or a file that could be left before.
         ensures first_crash { IsTrue (D.Disk.is_clean (first_opened result)) → (c : List ℕ) → D.Disk.may_leave (first_opened result) c
             → D.Disk.may_leave first c ⊎ (log_text c ≡ log_text (D.Disk.seen first)) }
@@ -69,7 +76,8 @@ impl<D: Disk> Pair<D> {
 
     /// Whether no line counts. Takes no memory.
     pub fn is_empty(&self) -> bool
-        ensures { ArePairHonest self.now → IsTrue result → lines_in self.now ≡ [] }
+        ensures none { ArePairHonest self.now → IsTrue result → lines_in self.now ≡ [] }
+        ensures some { ArePairHonest self.now → result ≡ false → 0 < length (lines_in self.now) }
     {
         self.first.is_empty() && self.second.is_empty()
     }
@@ -78,6 +86,8 @@ impl<D: Disk> Pair<D> {
     pub fn read_at(&mut self, at: usize, buf: &mut [u8]) -> io::Result<()>
         requires some { 0 < length buf.old }
         ensures read { OnOk result (ArePairHonest self.new → at + length buf.old ≤ length (lines_in self.old) → buf.new ≡ take (length buf.old) (drop at (lines_in self.old))) }
+        ensures faults { IfErr result (λ _. ArePairHonest self.new → at + length buf.old ≤ length (lines_in self.old)
+            → OneFailed D.Disk.faults (first_of self.old) (second_of self.old) (first_of self.new) (second_of self.new)) }
         ensures lines { lines_in self.new ≡ lines_in self.old }
         ensures first_crash { (c : List ℕ) → D.Disk.may_leave (first_of self.new) c → D.Disk.may_leave (first_of self.old) c }
         ensures second_crash { (d : List ℕ) → D.Disk.may_leave (second_of self.new) d → D.Disk.may_leave (second_of self.old) d }
@@ -109,6 +119,9 @@ impl<D: Disk> Pair<D> {
         // Whatever the call answers, a crash leaves all of the lines or none.
         ensures crash { AreHonestAfter result → (c d : List ℕ) → D.Disk.may_leave (first_after result) c → D.Disk.may_leave (second_after result) d
             → (pair_text c d ≡ lines_in self) ⊎ (pair_text c d ≡ lines_in self ++ lines.now) }
+        // It doesn't give up by itself.
+        ensures faults { IfErr result (λ _. AreHonestAfter result → OneFailed D.Disk.faults (first_of self) (second_of self) (first_after result) (second_after result)
+            ⊎ (2 ^ 64 ≤ length (lines_in self) + length lines.now + 1)) }
         ensures clean { AreHonestAfter result → ArePairHonest self }
         // Each file stays the one that it was.
         ensures first { IsTrue (D.Disk.is_clean (first_after result)) → IsTrue (D.Disk.is_clean (first_of self)) }
@@ -146,18 +159,19 @@ impl<D: Disk> Pair<D> {
 
     /// Begins to write lines that are to take the place of all others.
     ///
-    /// `Unknown` where the file that doesn't count couldn't be cleared, by [`Log::clear`]: those that count are there. Takes
-    /// no memory.
-    pub fn replace(self) -> Result<Replacing<D>, PairFailed<D>>
-        ensures begun { IfOk result (λ replacing. AreReplacingHonest replacing → (lines_counting replacing ≡ lines_in self) × (lines_coming replacing ≡ []) × LeavesCounting replacing × ArePairHonest self) }
-        ensures crash { IfErr result (λ why. AreHonestAfter (Err why) → (c d : List ℕ) → D.Disk.may_leave (first_after (Err why)) c → D.Disk.may_leave (second_after (Err why)) d
-            → pair_text c d ≡ lines_in self) }
-        ensures clean { IfErr result (λ why. AreHonestAfter (Err why) → ArePairHonest self) }
+    /// `ReplaceFailed` where the file that doesn't count couldn't be cleared, by [`Log::clear`]: those that count are there.
+    /// Takes no memory.
+    pub fn replace(self) -> Result<Replacing<D>, ReplaceFailed<D>>
+        ensures begun { IfOk result (λ replacing. AreReplacingHonest replacing → (lines_counting replacing ≡ lines_in self) × (lines_coming replacing ≡ []) × LeavesCounting replacing) }
+        // Whatever the call answers, a crash leaves the lines that count.
+        ensures crash { AreHonestReplaced result → (c d : List ℕ) → D.Disk.may_leave (first_replaced result) c → D.Disk.may_leave (second_replaced result) d
+            → pair_text c d ≡ lines_in self }
+        // It doesn't give up by itself.
+        ensures faults { IfErr result (λ failed. MoreFaults (D.Disk.faults (first_of self)) (D.Disk.faults failed.first)) }
+        ensures clean { AreHonestReplaced result → ArePairHonest self }
         // Each file stays the one that it was.
-        ensures first { (IfOk result (λ replacing. IsTrue (D.Disk.is_clean (first_in replacing)) → IsTrue (D.Disk.is_clean (first_of self))))
-            × (IfErr result (λ why. IsTrue (D.Disk.is_clean (first_after (Err why))) → IsTrue (D.Disk.is_clean (first_of self)))) }
-        ensures second { (IfOk result (λ replacing. IsTrue (D.Disk.is_clean (second_in replacing)) → IsTrue (D.Disk.is_clean (second_of self))))
-            × (IfErr result (λ why. IsTrue (D.Disk.is_clean (second_after (Err why))) → IsTrue (D.Disk.is_clean (second_of self)))) }
+        ensures first { IsTrue (D.Disk.is_clean (first_replaced result)) → IsTrue (D.Disk.is_clean (first_of self)) }
+        ensures second { IsTrue (D.Disk.is_clean (second_replaced result)) → IsTrue (D.Disk.is_clean (second_of self)) }
     {
         let Pair { first, second } = self;
         if second.is_empty() {
@@ -165,9 +179,11 @@ impl<D: Disk> Pair<D> {
         }
         match first.clear() {
             Ok(first) => Ok(Replacing::in_first(first, second)),
-            Err(ClearFailed { disk, error }) => {
-                Err(PairFailed::Unknown(disk, second.into_disk(), error))
-            }
+            Err(ClearFailed { disk, error }) => Err(ReplaceFailed {
+                first: disk,
+                second: second.into_disk(),
+                error,
+            }),
         }
     }
 }

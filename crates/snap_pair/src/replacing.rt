@@ -1,5 +1,5 @@
 //! Lines that are to take the place of all others.
-ghost use Rattle.std.specs.Prelude.{◌≡◌, ◌≢◌, ◌⊎◌, ◌<◌, ℕ, Bool, false, true, List, [], ◌++◌, length, IfOk, IfErr, OnErr, OnOk, IsTrue};
+ghost use Rattle.std.specs.Prelude.{◌≡◌, ◌≢◌, ◌⊎◌, ◌+◌, ◌<◌, ◌≤◌, ◌^◌, ℕ, Bool, false, true, List, [], ◌++◌, length, IfOk, IfErr, OnErr, OnOk, IsTrue};
 ghost use Rattle.snap_log.specs.Log.{IsHonest, disk_of, text_in};
 ghost use Rattle.snap_log.specs.Staged.{IsHonestStage, lines_staged, text_before};
 ghost use Rattle.snap_log.specs.Texts.{log_text, AreLines};
@@ -28,7 +28,7 @@ pub struct Replacing<D: Disk> {
 }
 
 impl<D: Disk> Replacing<D> {
-    ghost use Rattle.snap_pair.specs.Pair.{ArePairHonest, AreHonestAfter, IfPairNotKept, PairKeeps, first_after, first_of, second_after, second_of};
+    ghost use Rattle.snap_pair.specs.Pair.{ArePairHonest, AreHonestAfter, IfPairNotKept, OneFailed, PairKeeps, first_after, first_of, second_after, second_of};
     ghost use Rattle.snap_pair.specs.Replacing.{AreHonestAdding, AreReplacingHonest, IfNotAdded, LeavesCounting, first_adding, first_in, lines_coming, lines_counting, second_adding, second_in};
 
     // Lines are to take the place of those that count, which stand in the first file.
@@ -75,6 +75,8 @@ impl<D: Disk> Replacing<D> {
         ensures left { OnErr result (AreReplacingHonest self.new → lines_coming self.new ≡ lines_coming self.old) }
         ensures counting { lines_counting self.new ≡ lines_counting self.old }
         ensures crash { AreReplacingHonest self.new → LeavesCounting self.new }
+        ensures faults { IfErr result (λ _. AreReplacingHonest self.new → OneFailed D.Disk.faults (first_in self.old) (second_in self.old) (first_in self.new) (second_in self.new)
+            ⊎ (2 ^ 64 ≤ length (lines_coming self.old) + length lines.now + 1)) }
         ensures clean { AreReplacingHonest self.new → AreReplacingHonest self.old }
         // Each file stays the one that it was.
         ensures first { IsTrue (D.Disk.is_clean (first_in self.new)) → IsTrue (D.Disk.is_clean (first_in self.old)) }
@@ -93,6 +95,9 @@ impl<D: Disk> Replacing<D> {
         // Whatever the call answers, a crash leaves all of the lines or none.
         ensures crash { AreHonestAdding result → (c d : List ℕ) → D.Disk.may_leave (first_adding result) c → D.Disk.may_leave (second_adding result) d
             → (pair_text c d ≡ lines_counting self) ⊎ (pair_text c d ≡ lines_counting self ++ lines.now) }
+        // It doesn't give up by itself.
+        ensures faults { IfErr result (λ _. AreHonestAdding result → OneFailed D.Disk.faults (first_in self) (second_in self) (first_adding result) (second_adding result)
+            ⊎ (2 ^ 64 ≤ length (lines_counting self) + length lines.now + 1)) }
         ensures clean { AreHonestAdding result → AreReplacingHonest self }
         // Each file stays the one that it was.
         ensures first { IsTrue (D.Disk.is_clean (first_adding result)) → IsTrue (D.Disk.is_clean (first_in self)) }
@@ -140,6 +145,8 @@ impl<D: Disk> Replacing<D> {
         // Whatever the call answers, a crash leaves these lines or those.
         ensures crash { AreHonestAfter result → (c d : List ℕ) → D.Disk.may_leave (first_after result) c → D.Disk.may_leave (second_after result) d
             → (pair_text c d ≡ lines_counting self) ⊎ (pair_text c d ≡ lines_coming self) }
+        // It doesn't give up by itself.
+        ensures faults { IfErr result (λ _. OneFailed D.Disk.faults (first_in self) (second_in self) (first_after result) (second_after result)) }
         ensures clean { AreHonestAfter result → AreReplacingHonest self }
         // Each file stays the one that it was.
         ensures first { IsTrue (D.Disk.is_clean (first_after result)) → IsTrue (D.Disk.is_clean (first_in self)) }

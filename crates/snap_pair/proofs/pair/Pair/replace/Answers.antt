@@ -2,8 +2,25 @@ use Rattle.std.proofs.Common.{◌≡◌, ◌∙◌, ◌<◌, length, refl, sym, 
 use Rattle.snap_log.specs.Log.{IsHonest, text_in}
 use Rattle.snap_log.specs.Texts.{log_text}
 use Rattle.snap_log.proofs.LogLaws.{log_keeps}
-use Rattle.snap_pair.proofs.PairLaws.{second_counts, second_of}
+use Rattle.snap_pair.proofs.PairLaws.{first_counts, second_counts, second_of}
+use Rattle.snap_pair.proofs.ReplacingLaws.{honest_in}
 use Rattle.snap_pair.proofs.pair.Pair.replace.Goals as goal
+
+pub returns-then-is_empty-clause-crash : goal.returns-then-is_empty-clause-crash
+returns-then-is_empty-clause-crash g c = λ both f h left right.
+    let replacing = c.in_second.result in
+    let honest = honest_in replacing both in
+    let own : IsHonest c.args.self.second = (c.in_second.ensures.honest honest).1 in
+    c.in_second.ensures.crash honest f h left right ∙ c.in_second.ensures.counting
+    ∙ sym (first_counts (text_in c.args.self.first) (text_in c.args.self.second) (c.if-is_empty.ensures.none own refl))
+
+pub returns-in-Ok-clause-crash : goal.returns-in-Ok-clause-crash
+returns-in-Ok-clause-crash g c = λ both f h left right.
+    let replacing = c.in_first.result in
+    let honest = honest_in replacing both in
+    let own : IsHonest c.args.self.second = (c.in_first.ensures.honest honest).1 in
+    c.in_first.ensures.crash honest f h left right ∙ c.in_first.ensures.counting
+    ∙ sym (second_counts (text_in c.args.self.first) (text_in c.args.self.second) (c.if-is_empty.ensures.some own refl))
 
 pub returns-in-Err-clause-crash : goal.returns-in-Err-clause-crash
 returns-in-Err-clause-crash g c = λ honest f h left right.
