@@ -7,8 +7,8 @@ use Rattle.snap_log.specs.Texts.{IsLog}
 use Rattle.snap_pair.specs.Texts.{counting, pair_text}
 use Rattle.snap_pair.specs.declared.error.Which.{Which}
 use Rattle.snap_pair.specs.declared.error.Which.TheVariants.{First, Second}
-use Rattle.snap_pair.specs.declared.error.PairFailed.{PairFailed}
-use Rattle.snap_pair.specs.declared.error.PairFailed.TheVariants.{NotKept, Unknown}
+use Rattle.snap_pair.specs.declared.error.Failed.{Failed}
+use Rattle.snap_pair.specs.declared.error.Failed.TheVariants.{NotKept, Unknown}
 use Rattle.snap_pair.specs.declared.error.PairUnopened.{PairUnopened}
 use Rattle.snap_pair.specs.declared.pair.Pair.{Pair}
 
@@ -20,6 +20,24 @@ file_of Second first second = second
 -- a call of one of two files has failed, by their counts of failed calls
 abbrev pub OneFailed : {D : Type 0} → (D → ℕ) → D → D → D → D → Type 0
 OneFailed faults first second first_then second_then = MoreFaults (faults first) (faults first_then) ⊎ MoreFaults (faults second) (faults second_then)
+
+-- the first file after a call, whatever it answered, where this is the one of its value
+abbrev pub first_after : {T D : Type 0} → (T → D) → Result T (Failed T D) → D
+first_after first_of (Ok it) = first_of it
+first_after first_of (Err (NotKept it error)) = first_of it
+first_after first_of (Err (Unknown first second error)) = first
+
+-- the second one
+abbrev pub second_after : {T D : Type 0} → (T → D) → Result T (Failed T D) → D
+second_after second_of (Ok it) = second_of it
+second_after second_of (Err (NotKept it error)) = second_of it
+second_after second_of (Err (Unknown first second error)) = second
+
+-- where a write failed, this holds of what is left
+abbrev pub IfPairNotKept : {T D : Type 0} → Result T (Failed T D) → (T → Type 0) → Type 0
+IfPairNotKept (Ok it) P = ⊤
+IfPairNotKept (Err (NotKept it error)) P = P it
+IfPairNotKept (Err (Unknown first second error)) P = ⊤
 
 module _ {D : Type 0} {g : Ghosts D} where
   -- the lines that count
@@ -53,23 +71,6 @@ module _ {D : Type 0} {g : Ghosts D} where
   second_opened (Ok p) = second_of p
   second_opened (Err failed) = failed.second
 
-  -- the files after a call, whatever it answered
-  abbrev pub first_after : Result (Pair D g) (PairFailed D g) → D
-  first_after (Ok p) = first_of p
-  first_after (Err (NotKept p error)) = first_of p
-  first_after (Err (Unknown first second error)) = first
-
-  abbrev pub second_after : Result (Pair D g) (PairFailed D g) → D
-  second_after (Ok p) = second_of p
-  second_after (Err (NotKept p error)) = second_of p
-  second_after (Err (Unknown first second error)) = second
-
   -- no answer of these was a lie
-  abbrev pub AreHonestAfter : Result (Pair D g) (PairFailed D g) → Type 0
-  AreHonestAfter result = IsTrue (g.is_clean (first_after result)) × IsTrue (g.is_clean (second_after result))
-
-  -- where a write failed, this holds of the files
-  abbrev pub IfPairNotKept : Result (Pair D g) (PairFailed D g) → (Pair D g → Type 0) → Type 0
-  IfPairNotKept (Ok p) P = ⊤
-  IfPairNotKept (Err (NotKept p error)) P = P p
-  IfPairNotKept (Err (Unknown first second error)) P = ⊤
+  abbrev pub AreHonestAfter : Result (Pair D g) (Failed (Pair D g) D) → Type 0
+  AreHonestAfter result = IsTrue (g.is_clean (first_after first_of result)) × IsTrue (g.is_clean (second_after second_of result))

@@ -1,12 +1,12 @@
 -- What two files show while lines are written that are to take the place of all others.
-use Rattle.std.specs.Prelude.{◌≡◌, ℕ, if◌then◌else◌, List, Result, Ok, Err, IsTrue, ⊤}
+use Rattle.std.specs.Prelude.{◌≡◌, ℕ, if◌then◌else◌, List, Result, Ok, Err, IsTrue}
 use Rattle.sqlite_disk.specs.declared.Disk.{Ghosts}
 use Rattle.snap_log.specs.Log.{disk_of, text_in, IsHonest}
 use Rattle.snap_log.specs.Staged.{IsHonestStage, disk_behind, lines_staged}
 use Rattle.snap_pair.specs.Texts.{pair_text}
+use Rattle.snap_pair.specs.Pair.{first_after, second_after}
+use Rattle.snap_pair.specs.declared.error.Failed.{Failed}
 use Rattle.snap_pair.specs.declared.error.ReplaceFailed.{ReplaceFailed}
-use Rattle.snap_pair.specs.declared.error.ReplacingFailed.{ReplacingFailed}
-use Rattle.snap_pair.specs.declared.error.ReplacingFailed.TheVariants.{NotKept, Unknown}
 use Rattle.snap_pair.specs.declared.replacing.Replacing.{Replacing}
 
 module _ {D : Type 0} {g : Ghosts D} where
@@ -46,23 +46,6 @@ module _ {D : Type 0} {g : Ghosts D} where
   abbrev pub AreHonestReplaced : Result (Replacing D g) (ReplaceFailed D) → Type 0
   AreHonestReplaced result = IsTrue (g.is_clean (first_replaced result)) × IsTrue (g.is_clean (second_replaced result))
 
-  -- the files after an addition, whatever it answered
-  abbrev pub first_adding : Result (Replacing D g) (ReplacingFailed D g) → D
-  first_adding (Ok r) = first_in r
-  first_adding (Err (NotKept r error)) = first_in r
-  first_adding (Err (Unknown first second error)) = first
-
-  abbrev pub second_adding : Result (Replacing D g) (ReplacingFailed D g) → D
-  second_adding (Ok r) = second_in r
-  second_adding (Err (NotKept r error)) = second_in r
-  second_adding (Err (Unknown first second error)) = second
-
-  -- no answer of these was a lie
-  abbrev pub AreHonestAdding : Result (Replacing D g) (ReplacingFailed D g) → Type 0
-  AreHonestAdding result = IsTrue (g.is_clean (first_adding result)) × IsTrue (g.is_clean (second_adding result))
-
-  -- where a write failed, this holds of the files
-  abbrev pub IfNotAdded : Result (Replacing D g) (ReplacingFailed D g) → (Replacing D g → Type 0) → Type 0
-  IfNotAdded (Ok r) P = ⊤
-  IfNotAdded (Err (NotKept r error)) P = P r
-  IfNotAdded (Err (Unknown first second error)) P = ⊤
+  -- no answer of the files after an addition was a lie
+  abbrev pub AreHonestAdding : Result (Replacing D g) (Failed (Replacing D g) D) → Type 0
+  AreHonestAdding result = IsTrue (g.is_clean (first_after first_in result)) × IsTrue (g.is_clean (second_after second_in result))

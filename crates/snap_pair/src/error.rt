@@ -1,8 +1,5 @@
 //! Why a call on two files failed.
-use crate::pair::Pair;
-use crate::replacing::Replacing;
 use snap_log::OpenError;
-use sqlite_disk::Disk;
 use std::io;
 
 /// One of the two files.
@@ -31,21 +28,11 @@ pub struct ReplaceFailed<D> {
     pub error: io::Error,
 }
 
-/// Why lines were not added while others are written that are to take their place.
-#[derive(Drop)]
-pub enum ReplacingFailed<D: Disk> {
-    /// A write failed, as on a full disk. All is as it was, and the lines can be added again.
-    NotKept(Replacing<D>, io::Error),
-    /// A sync failed, or the write of the byte by which the lines count. What is on the disk is unknown: the lines that
-    /// count are there, with these or without. Open the files again, in another process where their cache may lie.
-    Unknown(D, D, io::Error),
-}
-
 /// Why a call failed that changes the lines.
 #[derive(Drop)]
-pub enum PairFailed<D: Disk> {
-    /// A write failed, as on a full disk. The lines are as they were, and the call can be made again.
-    NotKept(Pair<D>, io::Error),
+pub enum Failed<T, D> {
+    /// A write failed, as on a full disk. The lines that count are as they were, and the new ones can be written again.
+    NotKept(T, io::Error),
     /// A sync failed, or the write of a byte by which lines count. What is on the disk is unknown: the lines are as they
     /// were, or as the call makes them. Open the files again, in another process where their cache may lie.
     Unknown(D, D, io::Error),

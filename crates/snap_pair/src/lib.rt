@@ -11,6 +11,6 @@ mod finish;
 mod pair;
 mod replacing;
 
-pub use error::{PairFailed, PairUnopened, ReplaceFailed, ReplacingFailed, Which};
+pub use error::{Failed, PairUnopened, ReplaceFailed, Which};
 pub use pair::Pair;
 pub use replacing::Replacing;

@@ -5,7 +5,7 @@ ghost use Rattle.snap_log.specs.Opening.{FailsFor, IsRefusedFile, RefusesFile};
 ghost use Rattle.snap_log.specs.Texts.{log_text, AreLines};
 ghost use Rattle.snap_pair.specs.Texts.{pair_text};
 
-use crate::error::{PairFailed, PairUnopened, ReplaceFailed, Which};
+use crate::error::{Failed, PairUnopened, ReplaceFailed, Which};
 use crate::replacing::Replacing;
 use snap_log::{AppendFailed, ClearFailed, Log, OpenFailed};
 use sqlite_disk::Disk;
@@ -42,6 +42,9 @@ impl<D: Disk> Pair<D> {
             → D.Disk.may_leave first c ⊎ (log_text c ≡ log_text (D.Disk.seen first)) }
         ensures second_crash { IsTrue (D.Disk.is_clean (second_opened result)) → (d : List ℕ) → D.Disk.may_leave (second_opened result) d
             → D.Disk.may_leave second d ⊎ (log_text d ≡ log_text (D.Disk.seen second)) }
+        // Each file stays the one that it was.
+        ensures first { IsTrue (D.Disk.is_clean (first_opened result)) → IsTrue (D.Disk.is_clean first) }
+        ensures second { IsTrue (D.Disk.is_clean (second_opened result)) → IsTrue (D.Disk.is_clean second) }
     {
         let first = match Log::open(first) {
             Ok(first) => first,
@@ -112,40 +115,40 @@ impl<D: Disk> Pair<D> {
     /// Adds whole lines behind those that count, as one: a crash at any moment leaves all of them or none.
     ///
     /// As [`Log::append`] of the file that counts.
-    pub fn append(self, lines: &[u8]) -> Result<Pair<D>, PairFailed<D>>
+    pub fn append(self, lines: &[u8]) -> Result<Pair<D>, Failed<Pair<D>, D>>
         requires lines { AreLines lines.now }
         ensures added { IfOk result (λ pair. ArePairHonest pair → PairKeeps pair (lines_in self ++ lines.now)) }
         ensures not_kept { IfPairNotKept result (λ pair. ArePairHonest pair → PairKeeps pair (lines_in self)) }
         // Whatever the call answers, a crash leaves all of the lines or none.
-        ensures crash { AreHonestAfter result → (c d : List ℕ) → D.Disk.may_leave (first_after result) c → D.Disk.may_leave (second_after result) d
+        ensures crash { AreHonestAfter result → (c d : List ℕ) → D.Disk.may_leave (first_after first_of result) c → D.Disk.may_leave (second_after second_of result) d
             → (pair_text c d ≡ lines_in self) ⊎ (pair_text c d ≡ lines_in self ++ lines.now) }
         // It doesn't give up by itself.
-        ensures faults { IfErr result (λ _. AreHonestAfter result → OneFailed D.Disk.faults (first_of self) (second_of self) (first_after result) (second_after result)
+        ensures faults { IfErr result (λ _. AreHonestAfter result → OneFailed D.Disk.faults (first_of self) (second_of self) (first_after first_of result) (second_after second_of result)
             ⊎ (2 ^ 64 ≤ length (lines_in self) + length lines.now + 1)) }
         ensures clean { AreHonestAfter result → ArePairHonest self }
         // Each file stays the one that it was.
-        ensures first { IsTrue (D.Disk.is_clean (first_after result)) → IsTrue (D.Disk.is_clean (first_of self)) }
-        ensures second { IsTrue (D.Disk.is_clean (second_after result)) → IsTrue (D.Disk.is_clean (second_of self)) }
+        ensures first { IsTrue (D.Disk.is_clean (first_after first_of result)) → IsTrue (D.Disk.is_clean (first_of self)) }
+        ensures second { IsTrue (D.Disk.is_clean (second_after second_of result)) → IsTrue (D.Disk.is_clean (second_of self)) }
     {
         let Pair { first, second } = self;
         if second.is_empty() {
             return match first.append(lines) {
                 Ok(first) => Ok(Pair { first, second }),
                 Err(AppendFailed::NotKept(first, error)) => {
-                    Err(PairFailed::NotKept(Pair { first, second }, error))
+                    Err(Failed::NotKept(Pair { first, second }, error))
                 }
                 Err(AppendFailed::Unknown(first, error)) => {
-                    Err(PairFailed::Unknown(first, second.into_disk(), error))
+                    Err(Failed::Unknown(first, second.into_disk(), error))
                 }
             };
         }
         match second.append(lines) {
             Ok(second) => Ok(Pair { first, second }),
             Err(AppendFailed::NotKept(second, error)) => {
-                Err(PairFailed::NotKept(Pair { first, second }, error))
+                Err(Failed::NotKept(Pair { first, second }, error))
             }
             Err(AppendFailed::Unknown(second, error)) => {
-                Err(PairFailed::Unknown(first.into_disk(), second, error))
+                Err(Failed::Unknown(first.into_disk(), second, error))
             }
         }
     }

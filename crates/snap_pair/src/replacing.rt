@@ -1,11 +1,11 @@
 //! Lines that are to take the place of all others.
-ghost use Rattle.std.specs.Prelude.{◌≡◌, ◌≢◌, ◌⊎◌, ◌+◌, ◌<◌, ◌≤◌, ◌^◌, ℕ, Bool, false, true, List, [], ◌++◌, length, IfOk, IfErr, OnErr, OnOk, IsTrue};
+ghost use Rattle.std.specs.Prelude.{◌≡◌, ◌⊎◌, ◌+◌, ◌<◌, ◌≤◌, ◌^◌, ℕ, false, List, [], ◌++◌, length, IfOk, IfErr, OnErr, OnOk, IsTrue};
 ghost use Rattle.snap_log.specs.Log.{IsHonest, disk_of, text_in};
-ghost use Rattle.snap_log.specs.Staged.{IsHonestStage, lines_staged, text_before};
-ghost use Rattle.snap_log.specs.Texts.{log_text, AreLines};
+ghost use Rattle.snap_log.specs.Staged.{IsHonestStage, text_before};
+ghost use Rattle.snap_log.specs.Texts.{AreLines};
 ghost use Rattle.snap_pair.specs.Texts.{pair_text};
 
-use crate::error::{PairFailed, ReplacingFailed};
+use crate::error::Failed;
 use crate::finish::{finish_first, finish_second};
 use crate::pair::Pair;
 use snap_log::{AppendFailed, Appending, Log};
@@ -29,7 +29,7 @@ pub struct Replacing<D: Disk> {
 
 impl<D: Disk> Replacing<D> {
     ghost use Rattle.snap_pair.specs.Pair.{ArePairHonest, AreHonestAfter, IfPairNotKept, OneFailed, PairKeeps, first_after, first_of, second_after, second_of};
-    ghost use Rattle.snap_pair.specs.Replacing.{AreHonestAdding, AreReplacingHonest, IfNotAdded, LeavesCounting, first_adding, first_in, lines_coming, lines_counting, second_adding, second_in};
+    ghost use Rattle.snap_pair.specs.Replacing.{AreHonestAdding, AreReplacingHonest, LeavesCounting, first_in, lines_coming, lines_counting, second_in};
 
     // Lines are to take the place of those that count, which stand in the first file.
     pub(crate) fn in_second(first: Log<D>, second: Log<D>) -> Replacing<D>
@@ -86,22 +86,22 @@ impl<D: Disk> Replacing<D> {
     }
 
     /// Adds whole lines behind those that count, as one, as [`Pair::append`]. They aren't among those that come.
-    pub fn append(self, lines: &[u8]) -> Result<Replacing<D>, ReplacingFailed<D>>
+    pub fn append(self, lines: &[u8]) -> Result<Replacing<D>, Failed<Replacing<D>, D>>
         requires lines { AreLines lines.now }
         ensures added { IfOk result (λ replacing. AreReplacingHonest replacing → (lines_counting replacing ≡ lines_counting self ++ lines.now)
             × (lines_coming replacing ≡ lines_coming self) × LeavesCounting replacing) }
-        ensures not_kept { IfNotAdded result (λ replacing. AreReplacingHonest replacing → (lines_counting replacing ≡ lines_counting self)
+        ensures not_kept { IfPairNotKept result (λ replacing. AreReplacingHonest replacing → (lines_counting replacing ≡ lines_counting self)
             × (lines_coming replacing ≡ lines_coming self) × LeavesCounting replacing) }
         // Whatever the call answers, a crash leaves all of the lines or none.
-        ensures crash { AreHonestAdding result → (c d : List ℕ) → D.Disk.may_leave (first_adding result) c → D.Disk.may_leave (second_adding result) d
+        ensures crash { AreHonestAdding result → (c d : List ℕ) → D.Disk.may_leave (first_after first_in result) c → D.Disk.may_leave (second_after second_in result) d
             → (pair_text c d ≡ lines_counting self) ⊎ (pair_text c d ≡ lines_counting self ++ lines.now) }
         // It doesn't give up by itself.
-        ensures faults { IfErr result (λ _. AreHonestAdding result → OneFailed D.Disk.faults (first_in self) (second_in self) (first_adding result) (second_adding result)
+        ensures faults { IfErr result (λ _. AreHonestAdding result → OneFailed D.Disk.faults (first_in self) (second_in self) (first_after first_in result) (second_after second_in result)
             ⊎ (2 ^ 64 ≤ length (lines_counting self) + length lines.now + 1)) }
         ensures clean { AreHonestAdding result → AreReplacingHonest self }
         // Each file stays the one that it was.
-        ensures first { IsTrue (D.Disk.is_clean (first_adding result)) → IsTrue (D.Disk.is_clean (first_in self)) }
-        ensures second { IsTrue (D.Disk.is_clean (second_adding result)) → IsTrue (D.Disk.is_clean (second_in self)) }
+        ensures first { IsTrue (D.Disk.is_clean (first_after first_in result)) → IsTrue (D.Disk.is_clean (first_in self)) }
+        ensures second { IsTrue (D.Disk.is_clean (second_after second_in result)) → IsTrue (D.Disk.is_clean (second_in self)) }
     {
         let Replacing {
             counting,
@@ -114,7 +114,7 @@ impl<D: Disk> Replacing<D> {
                 coming,
                 is_second,
             }),
-            Err(AppendFailed::NotKept(counting, error)) => Err(ReplacingFailed::NotKept(
+            Err(AppendFailed::NotKept(counting, error)) => Err(Failed::NotKept(
                 Replacing {
                     counting,
                     coming,
@@ -125,9 +125,9 @@ impl<D: Disk> Replacing<D> {
             Err(AppendFailed::Unknown(disk, error)) => {
                 let other = coming.give_up().into_disk();
                 if is_second {
-                    Err(ReplacingFailed::Unknown(disk, other, error))
+                    Err(Failed::Unknown(disk, other, error))
                 } else {
-                    Err(ReplacingFailed::Unknown(other, disk, error))
+                    Err(Failed::Unknown(other, disk, error))
                 }
             }
         }
@@ -138,19 +138,19 @@ impl<D: Disk> Replacing<D> {
     /// At `Ok` they are on the disk, and each later crash leaves them alone. `NotKept` where the write of the closed gate
     /// behind them failed: those that counted count. `Unknown` where a sync failed, or the write of a byte by which lines
     /// count. Three syncs, four writes, or two and two; no memory.
-    pub fn finish(self) -> Result<Pair<D>, PairFailed<D>>
+    pub fn finish(self) -> Result<Pair<D>, Failed<Pair<D>, D>>
         requires some { AreReplacingHonest self → 0 < length (lines_coming self) }
         ensures replaced { IfOk result (λ pair. ArePairHonest pair → PairKeeps pair (lines_coming self)) }
         ensures not_kept { IfPairNotKept result (λ pair. ArePairHonest pair → PairKeeps pair (lines_counting self)) }
         // Whatever the call answers, a crash leaves these lines or those.
-        ensures crash { AreHonestAfter result → (c d : List ℕ) → D.Disk.may_leave (first_after result) c → D.Disk.may_leave (second_after result) d
+        ensures crash { AreHonestAfter result → (c d : List ℕ) → D.Disk.may_leave (first_after first_of result) c → D.Disk.may_leave (second_after second_of result) d
             → (pair_text c d ≡ lines_counting self) ⊎ (pair_text c d ≡ lines_coming self) }
         // It doesn't give up by itself.
-        ensures faults { IfErr result (λ _. OneFailed D.Disk.faults (first_in self) (second_in self) (first_after result) (second_after result)) }
+        ensures faults { IfErr result (λ _. OneFailed D.Disk.faults (first_in self) (second_in self) (first_after first_of result) (second_after second_of result)) }
         ensures clean { AreHonestAfter result → AreReplacingHonest self }
         // Each file stays the one that it was.
-        ensures first { IsTrue (D.Disk.is_clean (first_after result)) → IsTrue (D.Disk.is_clean (first_in self)) }
-        ensures second { IsTrue (D.Disk.is_clean (second_after result)) → IsTrue (D.Disk.is_clean (second_in self)) }
+        ensures first { IsTrue (D.Disk.is_clean (first_after first_of result)) → IsTrue (D.Disk.is_clean (first_in self)) }
+        ensures second { IsTrue (D.Disk.is_clean (second_after second_of result)) → IsTrue (D.Disk.is_clean (second_in self)) }
     {
         let Replacing {
             counting,
