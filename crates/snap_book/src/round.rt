@@ -107,6 +107,17 @@ impl<N: StoreName> Book<N> {
         Ok(())
     }
 
+    /// What [`Book::roll`] would answer now. Takes no memory. The cost is constant.
+    pub fn test_roll(&self, journal: u64) -> Result<(), Refusal>
+        ensures { result ≡ roll_answer self.now.state journal }
+    {
+        test_round(self.accounts.state(), journal)?;
+        if journal <= self.accounts.open_slots() {
+            return Err(Refusal::JournalFull);
+        }
+        Ok(())
+    }
+
     /// Begins the next round as [`Book::next_round`] does, and snapshots may be open: they stay as they are in
     /// their writers' hands, with their ids and shares. It needs no place in the journal of the round that ends.
     ///
@@ -118,10 +129,7 @@ impl<N: StoreName> Book<N> {
         ensures began { OnOk result (self.new ≡ record { state = next_round self.old.state; journal = []; opening = next_round self.old.state; limit = journal; copy = None }) }
         ensures same { OnErr result (self.new ≡ self.old) }
     {
-        test_round(self.accounts.state(), journal)?;
-        if journal <= self.accounts.open_slots() {
-            return Err(Refusal::JournalFull);
-        }
+        self.test_roll(journal)?;
         self.accounts.end_sessions();
         self.journal.begin(self.accounts.state(), journal);
         Ok(())

@@ -1,3 +1,4 @@
 mod Listing
 mod Labelling
 pub mod StoreBack
+pub mod LinesBack

@@ -13,6 +13,9 @@ pub enum StoreFault {
     /// of a layer that isn't in its place there.
     #[error("not in its place")]
     Misplaced,
+    /// The end says that there are more or fewer lines than have come.
+    #[error("a line is missing")]
+    Incomplete,
     /// With these bytes a file has more than 1,048,576.
     #[error("more than 1,048,576 bytes")]
     TooBig,

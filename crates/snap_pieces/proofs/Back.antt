@@ -118,4 +118,4 @@ piece_back (pieces.Leased name) is = refl
 pub line_back : (l : Line) → IsLine l → line_said (line_data l) ≡ Ok l
 line_back (lines.Head h) is = λ i. (small_back fields.FirstId h.first_id is i >>= λ first. Ok (record h { first_id = first })) >>= λ (x : StoreHead). Ok (lines.Head x)
 line_back (lines.Piece piece) is = piece_back piece is
-line_back lines.End is = refl
+line_back (lines.End n) is = refl

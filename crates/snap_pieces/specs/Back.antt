@@ -52,4 +52,4 @@ IsStorePiece piece = Unit {0}
 abbrev pub IsLine : Line → Type 0
 IsLine (lines.Head h) = IsSmall h.first_id
 IsLine (lines.Piece piece) = IsStorePiece piece
-IsLine lines.End = Unit {0}
+IsLine (lines.End n) = Unit {0}

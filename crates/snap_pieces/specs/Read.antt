@@ -221,7 +221,7 @@ as_layer read = read >>= λ piece. Ok (lines.Piece (pieces.Layer piece))
 abbrev pub line_of_word : Word → Data → Result Line LineField
 line_of_word words.Bytes line = as_layer (bytes_read fields.Bytes line >>= λ bs. Ok (layer_pieces.Bytes bs))
 line_of_word words.Dir line = as_layer (dir_read line >>= λ d. Ok (layer_pieces.Dir d))
-line_of_word words.End line = Ok lines.End
+line_of_word words.End line = do Ok (lines.End (← natural_read fields.Lines line))
 line_of_word words.File line = as_layer (file_read kept_read line)
 line_of_word words.Label line = label_read line >>= λ piece. Ok (lines.Piece piece)
 line_of_word words.Lease line = lease_read line >>= λ piece. Ok (lines.Piece piece)

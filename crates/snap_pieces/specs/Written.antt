@@ -100,9 +100,8 @@ abbrev pub first_members : SnapshotHead → Members → Members
 first_members h rest =
     maybe_member (codes "blocks") (option_map natural_data (in_charge (λ u. u.blocks) h.kind))
     (member (codes "created") (natural_data h.created) (with_command
-    (member (codes "id") (natural_data h.id)
     (maybe_member (codes "inodes") (option_map natural_data (in_charge (λ u. u.inodes) h.kind))
-    (member (codes "key") (string h.key) (member (codes "kind") (string (kind_name h.kind)) rest))))))
+    (member (codes "key") (string h.key) (member (codes "kind") (string (kind_name h.kind)) rest)))))
 
 -- the next ones: its layer's head, its namespace and its parent
 abbrev pub next_members : SnapshotHead → Members → Members
@@ -120,7 +119,7 @@ last_members h =
     member (codes "piece") (string (codes "snapshot"))
     (maybe_member (codes "sealed") (option_map boolean (sealed_in h.kind))
     (maybe_member (codes "slot") (option_map natural_data (active_slot h.kind))
-    (last (codes "updated") (natural_data h.updated))))
+    (member (codes "snapshot_id") (natural_data h.id) (last (codes "updated") (natural_data h.updated)))))
 
 -- a snapshot without its labels and the pieces of its layer
 abbrev pub snapshot_data : SnapshotHead → Data
@@ -165,4 +164,4 @@ piece_data (pieces.Leased name) = object (with_command (member (codes "name") (s
 abbrev pub line_data : Line → Data
 line_data (lines.Head h) = head_data h
 line_data (lines.Piece piece) = piece_data piece
-line_data lines.End = object (with_command (last (codes "piece") (string (codes "end"))))
+line_data (lines.End n) = object (with_command (member (codes "lines") (natural_data n) (last (codes "piece") (string (codes "end")))))

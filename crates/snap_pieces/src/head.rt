@@ -226,13 +226,12 @@ fn no_parts(layer: Option<Head>) -> KindParts
 #[tactic(auto, using(crate::proofs::Members::with_members_maybe))]
 fn put_first(out: &mut Writer, head: &SnapshotHead) -> Result<(), AllocError>
     ensures written { (rest : Members) → OnOk result (with_members (first_members head.now rest) out.old ≡ with_members rest out.new) }
-    ensures is { OnOk result (IsSmall head.now.id × IsKind head.now.kind) }
+    ensures is { OnOk result (IsKind head.now.kind) }
 {
     let kind = kind_parts(head.kind);
     put_maybe_number(out, "blocks", kind.blocks)?;
     put_number(out, "created", head.created)?;
     put_text(out, "do", "restore")?;
-    put_small(out, "id", head.id)?;
     put_maybe_number(out, "inodes", kind.inodes)?;
     put_text(out, "key", head.key.as_str())?;
     put_text(out, "kind", word(head.kind))?;
@@ -257,12 +256,14 @@ fn put_next(out: &mut Writer, head: &SnapshotHead) -> Result<(), AllocError>
 /// The last ones.
 #[tactic(auto, using(crate::proofs::Members::with_members_maybe))]
 fn put_last(out: &mut Writer, head: &SnapshotHead) -> Result<(), AllocError>
-    ensures { OnOk result (out.new ≡ with_members (last_members head.now) out.old) }
+    ensures written { OnOk result (out.new ≡ with_members (last_members head.now) out.old) }
+    ensures is { OnOk result (IsSmall head.now.id) }
 {
     let kind = kind_parts(head.kind);
     put_text(out, "piece", "snapshot")?;
     put_maybe_flag(out, "sealed", kind.sealed)?;
     put_maybe_number(out, "slot", kind.slot)?;
+    put_small(out, "snapshot_id", head.id)?;
     put_number(out, "updated", head.updated)?;
     out.token(Token::EndObject)
 }

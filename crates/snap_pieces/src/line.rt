@@ -7,6 +7,6 @@ pub enum Line {
     Head(StoreHead),
     /// A piece.
     Piece(StorePiece),
-    /// All pieces have come.
-    End,
+    /// All pieces have come, and how many lines there are, the head and this one among them.
+    End { lines: u64 },
 }

@@ -9,7 +9,7 @@ use crate::head::{read_head, read_snapshot};
 use crate::layer::{read_dir, read_file, read_sized, read_symlink};
 use crate::line::Line;
 use crate::piece::StorePiece;
-use crate::values::{bytes, lent_text, maybe_number, path, text, usage};
+use crate::values::{bytes, lent_text, maybe_number, number, path, text, usage};
 use crate::word::Word;
 use snap_call::Namespace;
 use snap_json::Value;
@@ -51,7 +51,10 @@ fn read_word(alloc: Global, word: Word, line: &Value<'_>) -> Result<Line, LineEr
     let piece = match word {
         Word::Bytes => StorePiece::Layer(Piece::Bytes(bytes(alloc, LineField::Bytes, line)?)),
         Word::Dir => StorePiece::Layer(Piece::Dir(read_dir(alloc, line)?)),
-        Word::End => return Ok(Line::End),
+        Word::End => {
+            let lines = number(LineField::Lines, line)?;
+            return Ok(Line::End { lines });
+        }
         Word::File => StorePiece::Layer(read_file(line)?),
         Word::Label => read_label(alloc, line)?,
         Word::Lease => read_lease(alloc, line)?,

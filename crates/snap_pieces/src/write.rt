@@ -68,8 +68,9 @@ pub fn write_line(alloc: Global, out: &mut Writer, line: &Line) -> Result<(), Al
     match line {
         Line::Head(head) => write_head(out, head),
         Line::Piece(piece) => write_piece(alloc, out, piece),
-        Line::End => {
+        Line::End { lines } => {
             begin(out)?;
+            put_number(out, "lines", *lines)?;
             put_text(out, "piece", "end")?;
             out.token(Token::EndObject)
         }

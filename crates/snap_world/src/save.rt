@@ -11,7 +11,7 @@ ghost use Rattle.snap_world.specs.World.{Fits};
 
 use crate::restoring::SavedHand;
 use crate::world::World;
-use snap_call::{Config, Namespace, Saved, SavedContent, SavedLease, State};
+use snap_call::{Config, Namespace, Refusal, Saved, SavedContent, SavedLease, State};
 use snap_lease::LeaseCopy;
 use snap_ledger::StoreName;
 use snap_record::{Sequence, Text};
@@ -169,6 +169,14 @@ impl<N: StoreName> World<N> {
             snapshots.push(self.saved_snapshot(record)?)?;
         }
         Ok(snapshots)
+    }
+
+    /// Whether a saved world can be restored: the refusal of a [`World::roll`] to as many entries as the round may have.
+    /// Takes no memory. The cost is constant.
+    pub fn test_save(&self) -> Result<(), Refusal>
+        ensures { result ≡ roll_answer self.now.state self.now.limit }
+    {
+        self.book.test_roll(self.book.most_entries())
     }
 
     /// What is saved of it. The layers of committed snapshots are shared, and those of open ones copied. Its entries

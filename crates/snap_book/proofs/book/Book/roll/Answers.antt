@@ -5,6 +5,6 @@ use Rattle.snap_book.proofs.book.Book.roll.Goals as goal
 
 pub begin-requires-clause-slots : goal.begin-requires-clause-slots
 begin-requires-clause-slots g c =
-    ap (λ (s : State). s.slots) c.state-2.ensures.same
+    ap (λ (s : State). s.slots) c.state.ensures.same
     ∙ ap (λ (s : State). s.slots) c.end_sessions.ensures
     ∙ kept_slots c.self.inside.accounts c.self.inside.journal c.self.invariant

@@ -1,0 +1,4 @@
+pub mod Values
+pub mod Written
+pub mod Calls
+pub mod WrittenCalls
