@@ -1,12 +1,12 @@
 -- What came of an input, read by read.
-use Rattle.std.specs.Prelude.{IfSome, IfOk, IfErr, IsTrue, Bool}
-use Rattle.std.proofs.Common.{◌≡◌, inl, inr, ◌+◌, ◌≤◌, ℕ, length, take, drop, arith, List, [], ◌∷◌, ◌++◌, refl, sym, ap, ◌∙◌, subst, append_assoc, append-nil, Option, Some, None, Result, Ok, Err}
+use Rattle.std.specs.Prelude.{IfSome, IfOk, IfErr, IsTrue, Bool, true, false, not, ◌⊎◌, if◌then◌else◌}
+use Rattle.std.proofs.Common.{◌≡◌, inl, inr, true≢false, ◌+◌, ◌≤◌, ℕ, length, take, drop, arith, List, [], ◌∷◌, ◌++◌, refl, sym, ap, ◌∙◌, subst, append_assoc, append-nil, Option, Some, None, Result, Ok, Err}
 use lib.Seq.{take-add}
 use Rattle.std.proofs.lemmas.List.{take_all}
 use Rattle.std.specs.Io.KnownBytes.{Consumes, IsAtEnd}
 use Rattle.sqlite_disk.specs.declared.Disk.{Ghosts}
 use Rattle.snap_log.specs.declared.log.Log.{Log}
-use Rattle.snap_log.specs.Batches.{Batched, batched, emptied, none_yet}
+use Rattle.snap_log.specs.Batches.{Batched, batched, emptied, is_nothing, none_yet}
 use Rattle.snap_log.specs.Log.{text_in, IsHonest}
 use Rattle.snap_lines.specs.Effects.{Effects}
 use Rattle.snap_lines.specs.Lines.{lines_of}
@@ -14,7 +14,7 @@ use Rattle.snap_lines.proofs.KnownLaws.{Appends-nil, Consumes-nil, Consumes-tran
 use Rattle.snap_durable.specs.declared.ended.Ended.{Ended}
 use Rattle.snap_durable.specs.Ended.{disk_after, disk_ended}
 use Rattle.snap_durable.specs.Parts.{LeavesPart, whole_in}
-use Rattle.snap_durable.specs.Served.{AreAnswered, Carried, Done, Ends, IsBegun, IsFeedOrNone, IsReplayed, Went, text_limit}
+use Rattle.snap_durable.specs.Served.{AreAnswered, Carried, Done, Ends, IsBegun, IsReplayed, Went, feed_behind, text_limit}
 use Rattle.snap_durable.specs.Serves.{Serves}
 use Rattle.snap_durable.proofs.ServeLaws.{serves_more, serves_none}
 use Rattle.snap_durable.proofs.BatchLaws.{begun_next, begun_none, emptied_more, lines_next}
@@ -29,6 +29,32 @@ pub if_stopped : {D : Type 0} {g : Ghosts D} {M : Type 0} {P Q : Ended D g → T
     → ((e : Ended D g) → (IsTrue (g.is_clean (disk_ended e)) → M) → P e → Q e) → IfErr r P → IfErr r Q
 if_stopped (Ok x) clean f p = tt
 if_stopped (Err e) clean f p = f e clean p
+
+-- the line feed that a last line lacks, by whether one has begun
+abbrev feed_if : Bool → List ℕ
+feed_if none = if none then [] else 10 ∷ []
+
+pub no_feed : (held : List ℕ) (b : Bool) → b ≡ not (is_nothing held) → b ≡ false → [] ≡ feed_behind held
+no_feed held b is none = by (is_nothing held) (sym is ∙ none)
+  where
+    by : (x : Bool) → not x ≡ false → [] ≡ feed_if x
+    by true h = refl
+    by false h = absurd (true≢false h)
+
+pub a_feed : (held : List ℕ) (b : Bool) → b ≡ not (is_nothing held) → b ≡ true → 10 ∷ [] ≡ feed_behind held
+a_feed held b is some = by (is_nothing held) (sym is ∙ some)
+  where
+    by : (x : Bool) → not x ≡ true → 10 ∷ [] ≡ feed_if x
+    by true h = absurd (true≢false (sym h))
+    by false h = refl
+
+-- nothing, or a line feed
+feed_or_none : (held last : List ℕ) → last ≡ feed_behind held → (last ≡ []) ⊎ (last ≡ 10 ∷ [])
+feed_or_none held last is = by (is_nothing held) is
+  where
+    by : (x : Bool) → last ≡ feed_if x → (last ≡ []) ⊎ (last ≡ 10 ∷ [])
+    by true h = inl h
+    by false h = inr h
 
 -- a read that gave nothing at the end
 pub at_end_before : (a b : Option (List ℕ)) → Consumes a b [] → IsAtEnd b → IsAtEnd a
@@ -116,13 +142,13 @@ module _ {A D : Type 0} {g : Ghosts D} (effect : Effects A) (changes : A → Lis
     pub came_ended : (w : A) (after : Option (List ℕ)) (r : Result (Log D g) (Ended D g)) (f : List ℕ) → IsAtEnd left → IfOk r (λ log_new. Ends effect changes mark keeping settled u s mid_log mid w log_new after)
         → IfErr r (λ ended. IsTrue (g.is_clean (disk_ended ended)) → (c : List ℕ) → g.may_leave (disk_ended ended) c → LeavesPart effect changes mark keeping settled u s (text_in mid_log) (10 ∷ []) c mid after)
         → (IsTrue (g.is_clean (disk_after r)) → IsHonest mid_log) → IsTrue (g.is_clean (disk_after r)) → g.may_leave (disk_after r) f → Left f after
-    came_ended w after (Ok log_new) f at_end ends crash was_clean clean h = last ends.last ends.is all
+    came_ended w after (Ok log_new) f at_end ends crash was_clean clean h = last ends.last (feed_or_none s.held ends.last ends.is) all
       where
         all : LeavesPart effect changes mark keeping settled v (none_yet limit) (text_in log) (was.read ++ ends.last) f before after
         all = went_leaves effect changes mark keeping settled v w (none_yet limit) ends.end log log_new before after (was.read ++ ends.last) f
             (went_more effect changes mark keeping settled v u (none_yet limit) s log mid_log before mid after was.read ends.last was.went w ends.end log_new ends.went) clean h
 
-        last : (l : List ℕ) → IsFeedOrNone l → LeavesPart effect changes mark keeping settled v (none_yet limit) (text_in log) (was.read ++ l) f before after → Left f after
+        last : (l : List ℕ) → (l ≡ []) ⊎ (l ≡ 10 ∷ []) → LeavesPart effect changes mark keeping settled v (none_yet limit) (text_in log) (was.read ++ l) f before after → Left f after
         last l (inl e) leaves = of_input left was.read f after was.consumed (subst (λ x. LeavesPart effect changes mark keeping settled v (none_yet limit) (text_in log) x f before after) (ap (λ x. was.read ++ x) e ∙ append-nil was.read) leaves)
         last l (inr e) leaves = of_all left was.read f after was.consumed at_end (subst (λ x. LeavesPart effect changes mark keeping settled v (none_yet limit) (text_in log) (was.read ++ x) f before after) e leaves)
     came_ended w after (Err e) f at_end ends crash was_clean clean h = came_stops_last after f at_end (was_clean clean) (crash clean f h)
@@ -139,7 +165,7 @@ module _ {A D : Type 0} {g : Ghosts D} (effect : Effects A) (changes : A → Lis
         on (Some bytes) None h e = absurd h
         on (Some bytes) (Some more) h e = record {
           last = ends.last;
-          is = ends.is;
+          is = ends.is ∙ ap (λ (t : Batched). feed_behind t.held) was.went.held ∙ ap (λ l. feed_behind (batched (none_yet limit) l).held) (sym (h ∙ ap (λ l. was.read ++ l) e ∙ append-nil was.read));
           parts = all.parts;
           text = all.text;
           kept = all.kept;

@@ -4,7 +4,7 @@ use Rattle.std.specs.Prelude.{if◌then◌else◌, ◌==◌, ◌&&◌, not}
 use Rattle.snap_script.specs.declared.fault.Fault.{Fault}
 use Rattle.snap_lines.specs.Effects.{Effect, Effects}
 use Rattle.snap_lines.specs.Lines.{lines_of, without_feed, is_open}
-use Rattle.snap_lines.specs.Transcripts.{Transcript, transcript_from, goes_on, next_line, effect_at}
+use Rattle.snap_lines.specs.Transcripts.{transcript_from, goes_on, next_line, effect_at}
 use Rattle.snap_lines.proofs.LineLaws.{feed_ended, line_split}
 use Rattle.snap_durable.specs.Serves.{Serves, place_unlimited, told_whole}
 use Rattle.snap_durable.specs.Parts.{lines_to_keep, line_limit, line_read}

@@ -1,9 +1,9 @@
 -- The lines of a part, one after another.
-use Rattle.std.proofs.Common.{◌≡◌, ℕ, ◌+◌, ◌<◌, ◌≤◌, List, [], ◌∷◌, ◌++◌, length, take, drop, Bool, true, false, refl, sym, ap, ◌∙◌, subst, arith, append_assoc, append-nil, take-append-drop}
-use Rattle.std.specs.Prelude.{slice_index, ◌==◌, ◌&&◌, ◌||◌, not, if◌then◌else◌}
-use Rattle.std.proofs.lemmas.List.{drop_more, take_all}
+use Rattle.std.proofs.Common.{◌≡◌, ℕ, ◌+◌, ◌<◌, List, [], ◌∷◌, ◌++◌, length, take, drop, true, false, sym, ap, ◌∙◌, arith, take-append-drop}
+use Rattle.std.specs.Prelude.{slice_index, ◌==◌}
+use Rattle.std.proofs.lemmas.List.{drop_more}
 use lib.Seq.{take-add}
-use Rattle.snap_lines.specs.Lines.{lines_of, without_feed, is_open}
+use Rattle.snap_lines.specs.Lines.{lines_of, is_open}
 use Rattle.snap_lines.proofs.LineLaws.{feed_ended, feed_open, line_last, line_split, open_more}
 use Rattle.snap_durable.specs.Parts.{line_limit, line_read}
 

@@ -1,7 +1,7 @@
 -- What was done with the bytes of an input.
-use Rattle.std.specs.Prelude.{◌≡◌, ◌⊎◌, ℕ, ◌≤◌, Bool, true, List, [], ◌∷◌, ◌++◌, length, take, Option, None, Result, Ok, Err}
+use Rattle.std.specs.Prelude.{◌≡◌, ◌⊎◌, ℕ, ◌≤◌, Bool, true, List, [], ◌∷◌, ◌++◌, length, take, Option, None, Result, Ok, Err, if◌then◌else◌}
 use Rattle.std.specs.Io.KnownBytes.{Appends}
-use Rattle.snap_log.specs.Batches.{Batched, batched, emptied, none_yet}
+use Rattle.snap_log.specs.Batches.{Batched, batched, emptied, is_nothing, none_yet}
 use Rattle.sqlite_disk.specs.declared.Disk.{Ghosts}
 use Rattle.snap_log.specs.declared.log.Log.{Log}
 use Rattle.snap_log.specs.Log.{disk_of, text_in, IsHonest, Keeps}
@@ -16,9 +16,9 @@ use Rattle.snap_durable.specs.Ended.{disk_ended}
 use Rattle.snap_durable.specs.Parts.{Part, AreTold, kept_of, whole_in, whole_of}
 use Rattle.snap_durable.specs.Serves.{Serves}
 
--- nothing, or a line feed
-abbrev pub IsFeedOrNone : List ℕ → Type 0
-IsFeedOrNone last = (last ≡ []) ⊎ (last ≡ 10 ∷ [])
+-- the line feed that the last line lacks, where one has begun
+abbrev pub feed_behind : List ℕ → List ℕ
+feed_behind held = if is_nothing held then [] else 10 ∷ []
 
 -- no whole line is there, and the one that has begun lacks its line feed
 pub record IsBegun (s : Batched) : Type 0 where
@@ -58,14 +58,14 @@ module _ {A D : Type 0} {g : Ghosts D} (effect : Effects A) (changes : A → Lis
   -- the line that had begun is answered, where there was one, and kept where it changes something
   pub record Ends (v : A) (s : Batched) (log : Log D g) (before : Option (List ℕ)) (w : A) (log_new : Log D g) (after : Option (List ℕ)) : Type 0 where
     pub last : List ℕ
-    pub is : IsFeedOrNone last
+    pub is : last ≡ feed_behind s.held
     pub end : Batched
     pub went : Went v s log before last w end log_new after
 
   -- all lines of an input were answered in parts, and the log has those that were kept behind its first text, and nothing else; the last line may have lacked its line feed
   pub record Done (limit : ℕ) (bytes : List ℕ) (v : A) (first : List ℕ) (before : Option (List ℕ)) (w : A) (log_new : Log D g) (after : Option (List ℕ)) : Type 0 where
     pub last : List ℕ
-    pub is : IsFeedOrNone last
+    pub is : last ≡ feed_behind (batched (none_yet limit) bytes).held
     pub parts : List Part
     pub text : List ℕ
     pub kept : List ℕ

@@ -14,6 +14,7 @@ use Rattle.snap_call.specs.Results.{◌>>=◌}
 use Rattle.snap_book.specs.Questions.{chain_usage}
 use Rattle.snap_script.specs.declared.answer.Answer.{Answer}
 use Rattle.snap_script.specs.declared.answer.Answer.TheVariants.{Reply}
+use Rattle.snap_script.specs.declared.command.Command.{Command}
 use Rattle.snap_script.specs.declared.command.Command.TheVariants as commands
 use Rattle.snap_script.specs.declared.fault.Field.TheVariants as fields
 use Rattle.snap_script.specs.declared.fault.Found.TheVariants.{Text}
@@ -49,11 +50,16 @@ is_quiet_in (Err fault) = false
 abbrev pub is_question : Data → Bool
 is_question line = is_asking_in (text fields.Do line) && is_quiet_in (optional as_bool fields.Quiet (Ok false) line)
 
--- what the command of a line asks; no other one stands among jobs
+-- what a command asks; no other one stands among jobs
+abbrev pub asked_by : Command → Result Asked Fault
+asked_by (commands.Ask question) = Ok (asks.Question question)
+asked_by (commands.ChainUsage namespace key) = Ok (asks.ChainUsage namespace key)
+asked_by command = Err (BadField fields.Do (Some Text))
+
+-- the same of the command of a line
 abbrev pub asked_in : Line → Result Asked Fault
-asked_in (lines.Command session (commands.Ask question)) = Ok (asks.Question question)
-asked_in (lines.Command session (commands.ChainUsage namespace key)) = Ok (asks.ChainUsage namespace key)
-asked_in line = Err (BadField fields.Do (Some Text))
+asked_in (lines.Command session command) = asked_by command
+asked_in lines.Empty = Err (BadField fields.Do (Some Text))
 
 -- what a question asks, by the fields that it may have: it is read as in a script
 unfoldable pub asked_of : FieldRule → Data → Result Asked Fault

@@ -10,9 +10,11 @@ use Rattle.snap_call.specs.declared.reply.Reply.TheVariants as replies
 use Rattle.snap_upper.specs.declared.op.Op.{Op}
 use Rattle.snap_upper.specs.declared.op.Op.TheVariants as ops
 use Rattle.snap_script.specs.About.{about, commit_subjects, new_subjects, operation_subjects}
-use Rattle.snap_script.specs.Answers.{maybe, number_data, only, reply_data}
+use Rattle.snap_values.specs.Values.{maybe, number_data, only}
+use Rattle.snap_script.specs.Answers.{reply_data}
 use Rattle.snap_script.specs.Faults.{field_name}
-use Rattle.snap_script.specs.Refusals.{refusal_name, refused_name}
+use Rattle.snap_values.specs.Values.{refusal_name}
+use Rattle.snap_script.specs.Refusals.{refused_name}
 use Rattle.snap_script.specs.declared.fault.Field.{Field}
 use Rattle.snap_script.specs.declared.refused.Refused.{Refused}
 use Rattle.snap_script.specs.declared.refused.Refused.TheVariants as refused

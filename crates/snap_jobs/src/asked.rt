@@ -1,14 +1,16 @@
 // Questions among jobs, which are asked once the store is closed.
-ghost use Rattle.std.specs.Prelude.{◌≡◌, IfOk, Ok, false, string_bytes};
+ghost use Rattle.std.specs.Prelude.{◌≡◌, IfOk, Ok, Some, false, string_bytes};
 ghost use Rattle.serde_json.specs.Find.{as_bool};
 ghost use Rattle.snap_json.specs.View.{view};
+ghost use Rattle.snap_script.specs.declared.fault.Fault.TheVariants.{BadField};
 ghost use Rattle.snap_script.specs.declared.fault.Field.TheVariants as fields;
+ghost use Rattle.snap_script.specs.declared.fault.Found.TheVariants as founds;
 ghost use Rattle.snap_script.specs.Fields.{optional, text};
 ghost use Rattle.snap_script.specs.Gives.{Gives};
 ghost use Rattle.snap_call.specs.Questions.{asking};
 ghost use Rattle.snap_script.specs.About.{call_subjects, command_answer};
 ghost use Rattle.snap_script.specs.declared.answer.Answer.TheVariants as answers;
-ghost use Rattle.snap_jobs.specs.Asked.{answer_to, answers_text, asked_in, asked_of, is_asking, is_asking_in, is_question, is_quiet_in};
+ghost use Rattle.snap_jobs.specs.Asked.{answer_to, answers_text, asked_by, asked_in, asked_of, is_asking, is_asking_in, is_question, is_quiet_in};
 
 use snap_call::{Question, Reply, is_start};
 use snap_json::Value;
@@ -59,19 +61,33 @@ pub(crate) fn is_question(line: &Value<'_>) -> bool
     has_asking_word(line) && is_quiet(line)
 }
 
+// The fault of a command that is no question.
+fn no_question(_command: Command) -> Fault
+    ensures { result ≡ BadField fields.Do (Some founds.Text) }
+{
+    Fault::BadField(Field::Do, Some(Found::Text))
+}
+
+// What a command asks.
+fn asked_by(command: Command) -> Result<Asked, Fault>
+    ensures { result ≡ asked_by command }
+{
+    match command {
+        Command::Ask(question) => Ok(Asked::Question(question)),
+        Command::ChainUsage { namespace, key } => Ok(Asked::ChainUsage { namespace, key }),
+        other => Err(no_question(other)),
+    }
+}
+
 fn asked_in(line: Line) -> Result<Asked, Fault>
     ensures { result ≡ asked_in line }
 {
     match line {
         Line::Command {
             session: _,
-            command: Command::Ask(question),
-        } => Ok(Asked::Question(question)),
-        Line::Command {
-            session: _,
-            command: Command::ChainUsage { namespace, key },
-        } => Ok(Asked::ChainUsage { namespace, key }),
-        _ => Err(Fault::BadField(Field::Do, Some(Found::Text))),
+            command,
+        } => asked_by(command),
+        Line::Empty => Err(Fault::BadField(Field::Do, Some(Found::Text))),
     }
 }
 

@@ -3,9 +3,9 @@ ghost use Rattle.std.specs.Prelude.{◌≡◌, IfOk, None, OnOk, codes, option_m
 ghost use Rattle.std.specs.List.{count_by};
 ghost use Rattle.serde_json.specs.Data.{string};
 ghost use Rattle.snap_json.specs.Tokens.{with_value};
-ghost use Rattle.snap_script.specs.Answers.{number_data, usage_data};
+ghost use Rattle.snap_values.specs.Values.{number_data, usage_data};
 ghost use Rattle.snap_script.specs.Faults.{field_name};
-ghost use Rattle.snap_script.specs.Written.{member_tokens, with_maybe};
+ghost use Rattle.snap_values.specs.Written.{member_tokens, with_maybe};
 ghost use Rattle.snap_writers.specs.declared.job.Ended.TheVariants.{Committed, Discarded};
 ghost use Rattle.snap_jobs.specs.Ends.{about_commit, about_end, about_failure, end_data, end_line, end_lines, end_told, failure, is_failed_memory, is_file_memory, is_refused_memory, is_undecided, operation_data, refused_call_data, uncalled_data, wants_memory};
 
@@ -79,7 +79,7 @@ fn of_member(out: &mut Writer, of: Option<Field>) -> Result<(), AllocError>
 }
 
 // A call for the job was refused.
-#[tactic(auto, using(snap_script::proofs::Maps::with_members_maybe))]
+#[tactic(auto, using(snap_values::proofs::Maps::with_members_maybe))]
 fn refused_call(
     out: &mut Writer,
     job: u64,
@@ -98,7 +98,7 @@ fn refused_call(
 }
 
 // An operation of the job was not done.
-#[tactic(auto, using(snap_script::proofs::Maps::with_members_maybe))]
+#[tactic(auto, using(snap_values::proofs::Maps::with_members_maybe))]
 fn refused_operation(
     out: &mut Writer,
     job: u64,

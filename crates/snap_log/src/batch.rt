@@ -1,7 +1,7 @@
 // The whole lines of an input that comes in pieces.
-ghost use Rattle.std.specs.Prelude.{◌≡◌, ◌∷◌, ◌<◌, [], ℕ, List, length, None, OnOk, IsTrue};
+ghost use Rattle.std.specs.Prelude.{◌≡◌, ◌∷◌, [], ℕ, List, None, OnOk, not};
 ghost use Rattle.memchr.specs.Find.{IsFirstByte, is_byte};
-ghost use Rattle.snap_log.specs.Batches.{batched, begins_blank, emptied, is_blank, none_yet};
+ghost use Rattle.snap_log.specs.Batches.{batched, begins_blank, emptied, is_blank, is_nothing, none_yet};
 
 use memchr::memchr;
 use std::alloc::{AllocError, Global};
@@ -126,7 +126,7 @@ impl Batch {
 
     /// Whether a line in pieces is held back.
     pub fn has_held(&self) -> bool
-        ensures { IsTrue result → 0 < length self.now.held }
+        ensures { result ≡ not (is_nothing self.now.held) }
     {
         !self.held.is_empty()
     }

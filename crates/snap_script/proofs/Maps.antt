@@ -1,36 +1,15 @@
--- The members of maps, and members that may be absent.
+-- The labels of an object, by a map of its members.
 use Rattle.std.proofs.Common.{◌≡◌, ℕ, List, [], ◌∷◌, Ordering, Less, Equal, Greater, Option, Some, None, option_map, cond, nat_cmp, Bor, refl, sym, ap, ◌∙◌}
-use Rattle.std.specs.BTreeMap.{insert_entry, is_at}
+use Rattle.std.specs.BTreeMap.{is_at}
 use Rattle.std.specs.Cmp.Lexicographic.{slice_cmp}
 use Rattle.std.specs.Map.{lookup}
 use Rattle.std.specs.Option.{option_map_or, option_and_then}
 use Rattle.std.specs.Ordering.{is_eq, match_ordering}
-use Rattle.json.specs.Token.{Token}
-use Rattle.serde_json.specs.Data.{Data, Members, put}
 use Rattle.serde_json.specs.Find.{as_str, get_member}
 use Rattle.snap_record.specs.Labels.{Label}
-use Rattle.snap_json.specs.Tokens.{with_members}
 use Rattle.snap_json.specs.View.{members_of, view}
 use Rattle.snap_json.specs.declared.value.Value.{Value}
-use Rattle.snap_script.specs.Answers.{maybe}
 use Rattle.snap_script.specs.Fields.{with_label_within, with_member}
-use Rattle.snap_script.specs.Written.{written_members_of, with_maybe}
-
-by_order : {A : Type 0} (value : A → Data) (o : Ordering) (a b c : List (Bor (List ℕ) × A))
-    → written_members_of value (match_ordering o a b c) ≡ match_ordering o (written_members_of value a) (written_members_of value b) (written_members_of value c)
-by_order value Less a b c = refl
-by_order value Equal a b c = refl
-by_order value Greater a b c = refl
-
--- a map with one more entry
-pub members_of_insert_entry : {A : Type 0} (value : A → Data) (entries : List (Bor (List ℕ) × A)) (key : Bor (List ℕ)) (a : A)
-    → written_members_of value (insert_entry (λ k l. slice_cmp nat_cmp k.now l.now) entries key a) ≡ put key.now (value a) (written_members_of value entries)
-members_of_insert_entry value [] key a = refl
-members_of_insert_entry value (entry ∷ rest) key a = by_order value (slice_cmp nat_cmp key.now entry.0.now) _ _ _ ∙ rw (members_of_insert_entry value rest key a)
-
-pub with_members_maybe : (key : List ℕ) (value : Option Data) (rest : Members) (before : List Token) → with_members (maybe key value rest) before ≡ with_members rest (with_maybe key value before)
-with_members_maybe key None rest before = refl
-with_members_maybe key (Some value) rest before = refl
 
 member_by_order : (key : List ℕ) (o : Ordering) (v : Bor Value) (rest : List (Bor (List ℕ) × Bor Value)) → option_map (λ x. view x.now) (lookup (is_at (λ k. slice_cmp nat_cmp key k.now)) rest) ≡ get_member key (members_of rest)
     → option_map (λ (x : Bor Value). view x.now) (cond (is_eq o) (Some v) (lookup (is_at (λ k. slice_cmp nat_cmp key k.now)) rest)) ≡ match_ordering o (get_member key (members_of rest)) (Some (view v.now)) (get_member key (members_of rest))

@@ -71,6 +71,7 @@ about s (refused.File error) = about_file s error
 about s refused.NoHand = Some fields.Key
 about s refused.NoSession = None
 about s refused.StillOut = None
+about s (refused.BadRestore why) = None
 
 -- ---- the subjects of a command
 

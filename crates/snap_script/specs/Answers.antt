@@ -1,26 +1,22 @@
 -- What a line is answered: JSON, the keys of each object in byte order; cited by the public clause of `Answer::line`.
-use Rattle.std.specs.Prelude.{ℕ, true, if◌then◌else◌, List, [], ◌∷◌, ◌++◌, Option, Some, None, codes, map}
-use Rattle.std.specs.Option.{option_map, option_map_or}
-use Rattle.std.specs.Str.{is_utf8}
+use Rattle.std.specs.Prelude.{ℕ, true, List, [], ◌∷◌, ◌++◌, Option, Some, None, codes, map}
+use Rattle.std.specs.Option.{option_map}
 use Rattle.hex.specs.Hex.{encode_lower}
-use Rattle.serde_json.specs.Data.{Data, null, boolean, number, string, array, object, unsigned, no_items, item, Members, no_members, member, put}
+use Rattle.serde_json.specs.Data.{Data, null, boolean, string, array, object, no_members, member}
 use Rattle.serde_json.specs.View.{items_of}
 use Rattle.serde_json.specs.Written.{compact_text}
 use Rattle.snap_path.specs.Text.{text_of}
 use Rattle.snap_usage.specs.declared.usage.Usage.{Usage}
-use Rattle.snap_lease.specs.Told.{ToldLease}
-use Rattle.snap_record.specs.Labels.{Bytes}
 use Rattle.snap_record.specs.Kinds.{kind_word}
-use Rattle.snap_record.specs.declared.info.Info.{Info}
-use Rattle.snap_mount.specs.declared.mount.Mount.{Mount}
-use Rattle.snap_mount.specs.Mounts.{mount_kind_word}
 use Rattle.snap_call.specs.declared.config.ConfigField.{ConfigField}
 use Rattle.snap_call.specs.declared.refusal.Refusal.TheVariants as refusals
 use Rattle.snap_call.specs.declared.reply.Reply.{Reply}
 use Rattle.snap_call.specs.declared.reply.Reply.TheVariants as replies
 use Rattle.snap_history.specs.Entries.{call_word}
-use Rattle.snap_diff.specs.Changes.{change_word}
-use Rattle.snap_diff.specs.declared.change.Change.{Change}
+use Rattle.snap_pieces.specs.declared.line.Line.{Line}
+use Rattle.snap_pieces.specs.Written.{line_data}
+use Rattle.snap_script.specs.Restoring.{restore_words}
+use Rattle.snap_script.specs.declared.restore.RestoreRefusal.{RestoreRefusal}
 use Rattle.snap_script.specs.declared.answer.Shown.{Shown}
 use Rattle.snap_script.specs.declared.answer.Shown.TheVariants as shown
 use Rattle.snap_script.specs.declared.answer.QuotaInfo.{QuotaInfo}
@@ -35,45 +31,8 @@ use Rattle.snap_script.specs.declared.fault.Field.{Field}
 use Rattle.snap_script.specs.declared.unknown.FieldRule.{FieldRule}
 use Rattle.snap_script.specs.declared.unknown.FieldRule.TheVariants as rules
 use Rattle.snap_script.specs.Faults.{field_name}
-use Rattle.snap_script.specs.Refusals.{config_field_name, free_at_refusal, refusal_name, refused_from, refused_name}
-
--- a number that isn't negative
-abbrev pub number_data : ℕ → Data
-number_data n = number (unsigned n)
-
--- blocks, then inodes
-abbrev pub usage_data : Usage → Data
-usage_data usage = array (item (number_data usage.blocks) (item (number_data usage.inodes) no_items))
-
--- one member alone
-abbrev pub only : List ℕ → Data → Members
-only key value = member key value no_members
-
--- the members with one more for each entry, in byte order of the keys
-abbrev pub members_with_entries : {A : Type 0} → (A → Data) → List (Bytes × A) → Members → Members
-members_with_entries value [] found = found
-members_with_entries value (entry ∷ entries) found = members_with_entries value entries (put entry.0 (value entry.1) found)
-
--- an info's parts, as containerd's Stat has them
-abbrev pub info_data : Info → Data
-info_data info = object
-    (member (codes "created") (number_data info.created)
-    (member (codes "id") (number_data info.id)
-    (member (codes "kind") (string (kind_word info.kind))
-    (member (codes "labels") (object (members_with_entries string info.labels no_members))
-    (member (codes "name") (string info.name)
-    (member (codes "parent") (string info.parent)
-    (only (codes "updated") (number_data info.updated))))))))
-
--- a mount: its options in their order, its source, and its kind's word
-abbrev pub mount_data : Mount → Data
-mount_data mount = object
-    (member (codes "options") (array (items_of (map string mount.options)))
-    (member (codes "source") (string mount.source) (only (codes "type") (string (mount_kind_word mount.kind)))))
-
--- a member that may be absent, before the others
-abbrev pub maybe : List ℕ → Option Data → Members → Members
-maybe key value rest = option_map_or (λ it. member key it rest) value rest
+use Rattle.snap_values.specs.Values.{number_data, usage_data, text_data, digest_data, only, maybe, members_with_entries, info_data, mount_data, lease_data, change_data, refusal_name}
+use Rattle.snap_script.specs.Refusals.{config_field_name, free_at_refusal, refused_from, refused_name}
 
 -- a refusal: its name, over the limit what is free, where it is from, and the field that it is about, where that is told
 abbrev pub refusal_data : Refused → Option Field → Data
@@ -89,14 +48,6 @@ bad_config_data field = object
     (member (codes "error") (string (refusal_name refusals.BadArgument))
     (member (codes "field") (string (config_field_name field))
     (only (codes "from") (string (codes "book")))))
-
--- a text, or null where the bytes are none: UTF-8 alone is JSON
-abbrev pub text_data : List ℕ → Data
-text_data bytes = if is_utf8 bytes then string bytes else null
-
--- a digest, or null where there is none
-abbrev pub digest_data : Option (List ℕ) → Data
-digest_data digest = option_map_or text_data digest null
 
 -- what a snapshot shows: null for nothing; a directory's mode; a file's mode and size, and its digest where its bytes aren't kept; a symlink's target
 abbrev pub shown_data : Option Shown → Data
@@ -117,10 +68,6 @@ node_data node = object
     (member (codes "parent") (string node.parent)
     (only (codes "usage") (usage_data node.usage)))))))
 
--- what a layer changes at a path
-abbrev pub change_data : Change → Data
-change_data change = object (member (codes "change") (string (change_word change.kind)) (only (codes "path") (string (text_of change.path))))
-
 -- what a namespace may take and what it takes
 abbrev pub quota_data : QuotaInfo → Data
 quota_data quota = object
@@ -130,13 +77,6 @@ quota_data quota = object
     (member (codes "limit") (usage_data quota.limit)
     (member (codes "open") (usage_data quota.active)
     (only (codes "spare") (usage_data quota.spare)))))))
-
--- a lease with the names in their order, without a last moment where it has none
-abbrev pub lease_data : ToldLease → Data
-lease_data lease = object
-    (member (codes "lease") (string lease.name)
-    (member (codes "names") (array (items_of (map string lease.names)))
-    (maybe (codes "until") (option_map number_data lease.until) no_members)))
 
 -- an entry, with the word of its call: without an id, a key or a refusal where it has none, and with a charge, a line or a namespace where that is told
 abbrev pub entry_data : JournalEntry → Data
@@ -173,6 +113,16 @@ reply_data (replies.Refused why) = refusal_data (refused.Book why) None
 reply_data replies.Opened = object (only (codes "ok") (boolean true))
 reply_data replies.Trimmed = object (only (codes "ok") (boolean true))
 reply_data replies.Done = object (only (codes "ok") (boolean true))
+
+-- lines of a saved store
+abbrev pub saved_lines : List Line → Data
+saved_lines lines = array (items_of (map line_data lines))
+
+-- why a line of a saved store isn't taken
+abbrev pub restore_data : RestoreRefusal → Data
+restore_data why = object
+    (member (codes "error") (string (codes "BadRestore"))
+    (member (codes "from") (string (codes "restore")) (only (codes "why") (string (restore_words why)))))
 
 -- how far a batch came: how many operations were done, and the layer's count and the snapshot's charge after them; and where one was refused, why, over the limit with what is free, with the field that it is about, where that is told, and which, from 1
 abbrev pub batch_data : ℕ → Usage → Usage → Option RefusedOperation → Data
@@ -219,6 +169,8 @@ answer_data (answers.Jobs committed discarded refused totals) = object
     (member (codes "discarded") (number_data discarded)
     (member (codes "refused") (number_data refused)
     (only (codes "totals") (object (members_with_entries usage_data totals no_members))))))
+answer_data (answers.Saved lines next) = object (member (codes "lines") (saved_lines lines) (maybe (codes "next") (option_map number_data next) no_members))
+answer_data (answers.BadRestore why) = restore_data why
 answer_data (answers.BadConfig field) = bad_config_data field
 answer_data (answers.Failed error) = refusal_data (refused.File error) None
 answer_data answers.NoSession = refusal_data refused.NoSession None

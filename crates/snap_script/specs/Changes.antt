@@ -32,3 +32,5 @@ changes_store (commands.Tree namespace) = false
 changes_store (commands.Diff namespace key after most) = false
 changes_store (commands.Journal namespace after most full) = false
 changes_store commands.Report = false
+changes_store (commands.Restore line) = true
+changes_store (commands.Save after most) = false

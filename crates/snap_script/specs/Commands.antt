@@ -17,6 +17,7 @@ use Rattle.snap_call.specs.State.{default_ancestors}
 use Rattle.snap_call.specs.Results.{◌>>=◌}
 use Rattle.snap_history.specs.declared.kind.CallKind.{CallKind}
 use Rattle.snap_history.specs.declared.kind.CallKind.TheVariants as kinds
+use Rattle.snap_pieces.specs.Read.{line_said}
 use Rattle.snap_script.specs.declared.fault.Field.TheVariants as fields
 use Rattle.snap_script.specs.declared.fault.Fault.{Fault}
 use Rattle.snap_script.specs.declared.command.Command.{Command}
@@ -108,6 +109,10 @@ batch_of rule line = do s ← named line; need ← required as_usage fields.Need
 unfoldable pub diff_of : Data → Result Command Fault
 diff_of line = do s ← named line; Ok (commands.Diff s.0 s.1 (← optional as_str fields.After (Ok []) line) (← optional as_natural fields.Most (Ok 64) line))
 
+-- how many lines of a saved store a save gives at most, whatever its line says
+abbrev pub most_saved : ℕ
+most_saved = 1024
+
 -- the command of a line by its verb, and by the fields that its operations may have; a file command and a lookup are on a snapshot s
 unfoldable pub command_of : FieldRule → Verb → Data → Result Command Fault
 command_of rule verbs.Open line = do Ok (commands.Open (← config_of line))
@@ -123,3 +128,5 @@ command_of rule verbs.Tree line = do Ok (commands.Tree (← text fields.Namespac
 command_of rule verbs.Diff line = diff_of line
 command_of rule verbs.Journal line = do Ok (commands.Journal (← given as_str fields.Namespace line) (← optional as_natural fields.After (Ok 0) line) (← optional as_natural fields.Most (Ok 64) line) (← optional as_bool fields.Full (Ok false) line))
 command_of rule verbs.Report line = Ok commands.Report
+command_of rule verbs.Restore line = Ok (commands.Restore (line_said line))
+command_of rule verbs.Save line = do Ok (commands.Save (← optional as_natural fields.After (Ok 0) line) (← optional as_natural fields.Most (Ok most_saved) line))

@@ -12,7 +12,9 @@ use Rattle.snap_script.specs.declared.fault.ReadError.{ReadError}
 use Rattle.snap_script.specs.declared.fault.ReadError.TheVariants as errors
 use Rattle.snap_script.specs.declared.unknown.FieldRule.{FieldRule}
 use Rattle.snap_script.specs.declared.unknown.FieldRule.TheVariants as rules
+use Rattle.snap_script.specs.declared.refused.Refused.TheVariants as refused
 use Rattle.snap_script.specs.Refusals.{config_field_name, refused_name}
+use Rattle.snap_script.specs.Restoring.{restore_words}
 
 -- a field's name, as it stands in a line
 abbrev pub field_name : Field → List ℕ
@@ -83,7 +85,7 @@ wanted fields.Full = (Truth, codes "true or false")
 wanted fields.Peek = (Truth, codes "true or false")
 wanted fields.Whole = (Truth, codes "true or false")
 wanted fields.Do = (Text, codes "the word of a command, in a job that of a file command,")
-wanted fields.After = (Text, codes "a text in a walk or a diff, a number of digits alone below 2^64 in a journal")
+wanted fields.After = (Text, codes "a text in a walk or a diff, a number of digits alone below 2^64 in a journal or a save")
 wanted fields.Kind = (Text, codes "View, Active or Committed")
 wanted fields.Path = (Text, codes "a path")
 wanted fields.From = (Text, codes "a path")
@@ -145,6 +147,7 @@ fault_words (faults.BadField field found) = bad_field_words field found
 fault_words (faults.Operation number fault) = codes "operation " ++ (decimal number ++ (codes ": " ++ operation_words fault))
 fault_words (faults.BadOpen None) = codes "bad field open"
 fault_words (faults.BadOpen (Some field)) = codes "bad field open: malformed " ++ config_field_name field
+fault_words (faults.Refused (refused.BadRestore why)) = codes "BadRestore: " ++ restore_words why
 fault_words (faults.Refused why) = refused_name why
 
 -- the fault of the operation of this number, of what a value is no operation for

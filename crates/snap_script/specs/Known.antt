@@ -1,6 +1,6 @@
 -- The fields that a line may have, where unknown ones are faults; cited by the public clauses of `read_line` and
 -- `read_request` through Lines.antt.
-use Rattle.std.specs.Prelude.{ℕ, Bool, ◌||◌, if◌then◌else◌, List, [], ◌∷◌, Option, Some, None, find, option_and_then, Result, Ok, Err}
+use Rattle.std.specs.Prelude.{ℕ, Bool, true, false, ◌||◌, if◌then◌else◌, List, [], ◌∷◌, Option, Some, None, find, option_and_then, Result, Ok, Err}
 use Rattle.std.specs.List.{list_any}
 use Rattle.std.specs.Str.{bytes_eq}
 use Rattle.serde_json.specs.Data.{Data, Members, no_members, member}
@@ -76,6 +76,8 @@ fields_of verbs.Tree = fields.Namespace ∷ []
 fields_of verbs.Diff = fields.Namespace ∷ fields.Key ∷ fields.After ∷ fields.Most ∷ []
 fields_of verbs.Journal = fields.Namespace ∷ fields.After ∷ fields.Most ∷ fields.Full ∷ []
 fields_of verbs.Report = []
+fields_of verbs.Restore = []
+fields_of verbs.Save = fields.After ∷ fields.Most ∷ []
 
 -- the fields that a line may have with any command, where it may not have just any: the command's word, the session, and a client's id of the line
 abbrev pub common_fields : FieldRule → List Field
@@ -109,11 +111,20 @@ unless_unknown own (Some name) = Err (UnknownField name (near_field own name))
 abbrev pub known_within : List Field → List Field → Data → Result Unit Fault
 known_within common own d = unless_unknown own (option_and_then (unknown_among common own) (as_object d))
 
--- the line of a command has no field but those that it may have
+-- a line of a saved store
+abbrev pub is_restore : Verb → Bool
+is_restore verbs.Restore = true
+is_restore verb = false
+
+-- where not any field may stand, the line has no field but the common ones and those of its command
+abbrev pub known_by : FieldRule → Verb → Data → Result Unit Fault
+known_by rules.Any verb line = Ok tt
+known_by rules.Known verb line = known_within (common_fields rules.Known) (fields_of verb) line
+known_by rules.KnownAndId verb line = known_within (common_fields rules.KnownAndId) (fields_of verb) line
+
+-- the line of a command has no field but those that it may have; what a line of a saved store has besides its own isn't looked at
 unfoldable pub known_fields : FieldRule → Verb → Data → Result Unit Fault
-known_fields rules.Any verb line = Ok tt
-known_fields rules.Known verb line = known_within (common_fields rules.Known) (fields_of verb) line
-known_fields rules.KnownAndId verb line = known_within (common_fields rules.KnownAndId) (fields_of verb) line
+known_fields rule verb line = if is_restore verb then Ok tt else known_by rule verb line
 
 -- ---- jobs
 

@@ -9,10 +9,8 @@ pub mod Changes
 pub mod Lines
 pub mod Gives
 pub mod Answers
-pub mod Calls
 pub mod Refusals
+pub mod Restoring
 pub mod About
-pub mod Written
-pub mod WrittenCalls
 pub mod Requests
 pub mod Responses

@@ -16,7 +16,7 @@ use Rattle.snap_script.specs.declared.line.Line.TheVariants as lines
 use Rattle.snap_script.specs.declared.unknown.FieldRule.{FieldRule}
 use Rattle.snap_script.specs.declared.unknown.FieldRule.TheVariants as rules
 use Rattle.snap_script.specs.declared.verb.Verb.{Verb}
-use Rattle.snap_script.specs.declared.verb.Verb.TheVariants.{Open}
+use Rattle.snap_script.specs.declared.verb.Verb.TheVariants.{Open, Restore}
 use Rattle.snap_script.specs.Faults.{fault_told}
 use Rattle.snap_script.specs.Fields.{text, optional, as_natural}
 use Rattle.snap_script.specs.Words.{near_command, verb_of}
@@ -39,11 +39,13 @@ object_of line = if is_some (as_object line) then Ok line else Err NotAnObject
 unfoldable pub object_in : List ℕ → Result Data Fault
 object_in bytes = do object_of (← json_of bytes)
 
--- the first command is open, and no other is
+-- the first command is open or a line of a saved store, and none is one of them once a store stands
 abbrev pub allowed_by : Bool → Option Verb → List ℕ → Result Verb Fault
 allowed_by false (Some Open) word = Ok Open
+allowed_by false (Some Restore) word = Ok Restore
 allowed_by false verb word = Err FirstLineMustBeOpen
 allowed_by true (Some Open) word = Err OpenTwice
+allowed_by true (Some Restore) word = Err OpenTwice
 allowed_by true (Some verb) word = Ok verb
 allowed_by true None word = Err (NoSuchCommand (near_command word))
 
@@ -74,10 +76,15 @@ session_known rules.Any line = Ok tt
 session_known rules.Known line = do session ← optional as_natural fields.Session (Ok 0) line; Ok tt
 session_known rules.KnownAndId line = do session ← optional as_natural fields.Session (Ok 0) line; Ok tt
 
+-- the word is that of open
+abbrev pub opens : Option Verb → Result Unit Fault
+opens (Some Open) = Ok tt
+opens verb = Err FirstLineMustBeOpen
+
 -- the store that a first line opens, where no session is named
 unfoldable pub opening_of : FieldRule → Data → Result Config Fault
 opening_of rule line = do
-  verb ← allowed false (← text fields.Do line)
+  first ← opens (verb_of (← text fields.Do line))
   known ← known_fields rule Open line
   session ← session_known rule line
   config_of line

@@ -5,37 +5,13 @@ use Rattle.snap_merge.specs.declared.error.FsError.{FsError}
 use Rattle.snap_merge.specs.declared.error.FsError.TheVariants as errors
 use Rattle.snap_call.specs.declared.config.ConfigField.{ConfigField}
 use Rattle.snap_call.specs.declared.config.ConfigField.TheVariants as config_fields
-use Rattle.snap_call.specs.declared.refusal.Refusal.{Refusal}
 use Rattle.snap_call.specs.declared.refusal.Refusal.TheVariants as refusals
 use Rattle.snap_call.specs.declared.reply.Reply.TheVariants as replies
+use Rattle.snap_values.specs.Values.{refusal_name}
 use Rattle.snap_script.specs.declared.answer.Answer.{Answer}
 use Rattle.snap_script.specs.declared.answer.Answer.TheVariants as answers
 use Rattle.snap_script.specs.declared.refused.Refused.{Refused}
 use Rattle.snap_script.specs.declared.refused.Refused.TheVariants as refused
-
--- the name of each refusal
-abbrev pub refusal_name : Refusal → List ℕ
-refusal_name refusals.BadArgument = codes "BadArgument"
-refusal_name refusals.NoNamespace = codes "NoNamespace"
-refusal_name refusals.NamespaceExists = codes "NamespaceExists"
-refusal_name refusals.TooManyNamespaces = codes "TooManyNamespaces"
-refusal_name refusals.NotEmpty = codes "NotEmpty"
-refusal_name refusals.NotFound = codes "NotFound"
-refusal_name refusals.AlreadyExists = codes "AlreadyExists"
-refusal_name refusals.NotCommitted = codes "NotCommitted"
-refusal_name refusals.NotActive = codes "NotActive"
-refusal_name refusals.HasChildren = codes "HasChildren"
-refusal_name refusals.InUse = codes "InUse"
-refusal_name refusals.Leased = codes "Leased"
-refusal_name refusals.NoLease = codes "NoLease"
-refusal_name refusals.LeaseExists = codes "LeaseExists"
-refusal_name refusals.TooDeep = codes "TooDeep"
-refusal_name refusals.TooManyActives = codes "TooManyActives"
-refusal_name (refusals.OverLimit free_blocks free_inodes) = codes "OverLimit"
-refusal_name refusals.BelowCharge = codes "BelowCharge"
-refusal_name refusals.NumbersSpent = codes "NumbersSpent"
-refusal_name refusals.JournalFull = codes "JournalFull"
-refusal_name (refusals.OutOfMemory want) = codes "OutOfMemory"
 
 -- the name of each error of a file call
 abbrev pub error_name : FsError → List ℕ
@@ -61,11 +37,13 @@ refused_name (refused.File error) = error_name error
 refused_name refused.NoSession = codes "NoSession"
 refused_name refused.NoHand = codes "NoHand"
 refused_name refused.StillOut = codes "StillOut"
+refused_name (refused.BadRestore why) = codes "BadRestore"
 
 -- where it is from, as its answer has it
 abbrev pub refused_from : Refused → List ℕ
 refused_from (refused.Book why) = codes "book"
 refused_from (refused.File error) = codes "file"
+refused_from (refused.BadRestore why) = codes "restore"
 refused_from why = codes "world"
 
 -- what the namespace has free, where a call was over its limit
@@ -92,5 +70,6 @@ refusal_in_answer (answers.Failed error) = Some (refused.File error)
 refusal_in_answer answers.NoSession = Some refused.NoSession
 refusal_in_answer answers.NoHand = Some refused.NoHand
 refusal_in_answer answers.StillOut = Some refused.StillOut
+refusal_in_answer (answers.BadRestore why) = Some (refused.BadRestore why)
 refusal_in_answer (answers.Refused why of) = Some why
 refusal_in_answer answer = None

@@ -3,7 +3,8 @@ use Rattle.std.specs.Prelude.{true, List, [], ℕ, ◌∷◌, ◌++◌, Option, 
 use Rattle.serde_json.specs.Data.{Data, boolean, string, object, member}
 use Rattle.serde_json.specs.Written.{compact_text}
 use Rattle.snap_script.specs.Faults.{fault_words}
-use Rattle.snap_script.specs.Answers.{answer_data, number_data, only}
+use Rattle.snap_values.specs.Values.{number_data, only}
+use Rattle.snap_script.specs.Answers.{answer_data}
 use Rattle.snap_script.specs.declared.request.Id.{Id}
 use Rattle.snap_script.specs.declared.request.Id.TheVariants as ids
 use Rattle.snap_script.specs.declared.response.Response.{Response}

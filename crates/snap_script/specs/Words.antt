@@ -58,6 +58,8 @@ words =
     ∷ (codes "diff", verbs.Diff)
     ∷ (codes "journal", verbs.Journal)
     ∷ (codes "report", verbs.Report)
+    ∷ (codes "restore", verbs.Restore)
+    ∷ (codes "save", verbs.Save)
     ∷ []
 
 -- the verb of a word

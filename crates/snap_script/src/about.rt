@@ -156,7 +156,7 @@ impl Subjects {
             Refused::Book(why) => why,
             Refused::File(error) => return self.about_file(error),
             Refused::NoHand => return Some(Field::Key),
-            Refused::NoSession | Refused::StillOut => return None,
+            Refused::NoSession | Refused::StillOut | Refused::BadRestore(_) => return None,
         };
         match why {
             Refusal::BadArgument => Some(self.malformed),

@@ -1,14 +1,14 @@
 ghost use Rattle.std.specs.Prelude.{◌≡◌, IfOk, string_bytes};
 ghost use Rattle.snap_call.specs.declared.reply.Reply.TheVariants as replies;
-ghost use Rattle.snap_script.specs.Answers.{answer_data, answer_line, answer_told, change_data, node_data, quota_data, shown_data};
+ghost use Rattle.snap_script.specs.Answers.{answer_data, answer_line, answer_told, node_data, quota_data};
 ghost use Rattle.snap_script.specs.declared.answer.Answer.TheVariants as answers;
 
 use crate::batch::batch_done;
 use crate::fault::Field;
 use crate::refused::Refused;
-use crate::to_json::{ToJson, member, only, pair};
+use crate::restore::{RestoreRefusal, not_restored, saved};
 use crate::unknown::FieldRule;
-use crate::values::{bad_config, jobs, quotas, refusal, report, sized};
+use crate::values::{bad_config, jobs, quotas, refusal, reply, report, seen};
 use snap_call::{ConfigField, Refusal, Reply};
 use snap_diff::Change;
 use snap_history::EntryInfo;
@@ -17,8 +17,10 @@ use snap_layer::Bytes;
 use snap_lease::LeaseInfo;
 use snap_merge::FsError;
 use snap_path::{Name, Path};
+use snap_pieces::Line as SavedLine;
 use snap_record::{Kind, Sequence, Text};
 use snap_usage::Usage;
+use snap_values::{ToJson, member, only, pair};
 use std::alloc::{AllocError, Global};
 
 /// What a snapshot shows at a path.
@@ -43,21 +45,6 @@ pub enum Shown {
     Symlink {
         target: Bytes,
     },
-}
-
-/// What is seen, or null.
-impl ToJson for Option<Shown> {
-    ghost value = { shown_data };
-
-    fn write(&self, alloc: Global, out: &mut Writer) -> Result<(), AllocError> {
-        match self {
-            None => out.token(Token::Null),
-            Some(Shown::Dir { mode }) => only(alloc, out, "dir", mode),
-            Some(Shown::File { mode, size }) => pair(alloc, out, "file", mode, "size", size),
-            Some(Shown::Sized { mode, size, digest }) => sized(alloc, out, *mode, *size, digest),
-            Some(Shown::Symlink { target }) => only(alloc, out, "symlink", target),
-        }
-    }
 }
 
 /// A snapshot as one of the forest of its namespace.
@@ -86,16 +73,6 @@ impl ToJson for TreeNode {
         member(alloc, out, "parent", &self.parent)?;
         member(alloc, out, "usage", &self.usage)?;
         out.token(Token::EndObject)
-    }
-}
-
-/// What a snapshot's layer changes at a path.
-impl ToJson for Change {
-    ghost value = { change_data };
-
-    fn write(&self, alloc: Global, out: &mut Writer) -> Result<(), AllocError> {
-        let path = self.path.as_str();
-        pair(alloc, out, "change", &self.kind.as_str(), "path", &path)
     }
 }
 
@@ -252,6 +229,15 @@ pub enum Answer {
         refused: u64,
         totals: Sequence<(Text, Usage)>,
     },
+    /// Lines of a saved store, and how many of its lines have come, where more follow:
+    /// `{"lines":[{"do":"restore","piece":"end"}],"next":1024}`.
+    Saved {
+        lines: Sequence<SavedLine>,
+        next: Option<u64>,
+    },
+    /// A line of a saved store isn't taken, or the store of such lines isn't opened:
+    /// `{"error":"BadRestore","from":"restore","why":"snapshot 3: NotFound"}`.
+    BadRestore(RestoreRefusal),
     /// A store was refused for a malformed field of its `open`, the first such in the order of [`ConfigField`]:
     /// `{"error":"BadArgument","field":"slots","from":"book"}`.
     BadConfig(ConfigField),
@@ -309,6 +295,8 @@ impl Drop for Answer {
                 refused: _,
                 totals: _,
             } => {}
+            Answer::Saved { lines: _, next: _ } => {}
+            Answer::BadRestore(_) => {}
             Answer::BadConfig(_) => {}
             Answer::Failed(_) => {}
             Answer::NoSession => {}
@@ -379,7 +367,7 @@ impl ToJson for Answer {
 
     fn write(&self, alloc: Global, out: &mut Writer) -> Result<(), AllocError> {
         match self {
-            Answer::Reply(own) => own.write(alloc, out),
+            Answer::Reply(own) => reply(alloc, out, own),
             Answer::Session(number) => only(alloc, out, "session", number),
             Answer::Share(amount) => only(alloc, out, "share", amount),
             Answer::Changed { count, share } => pair(alloc, out, "count", count, "share", share),
@@ -389,7 +377,7 @@ impl ToJson for Answer {
                 share,
                 refused,
             } => batch_done(alloc, out, *done, *count, *share, *refused),
-            Answer::Seen(shown) => only(alloc, out, "seen", shown),
+            Answer::Seen(shown) => seen(alloc, out, shown),
             Answer::Names(own) => only(alloc, out, "names", own),
             Answer::Head { head, size } => {
                 let head = hex::encode(alloc, head.as_slice())?;
@@ -428,7 +416,9 @@ impl ToJson for Answer {
                 *refused,
                 totals.as_slice(),
             ),
+            Answer::Saved { lines, next } => saved(alloc, out, lines.as_slice(), *next),
             Answer::BadConfig(field) => bad_config(alloc, out, *field),
+            Answer::BadRestore(why) => not_restored(alloc, out, *why),
             Answer::Failed(own) => refusal(alloc, out, Refused::File(*own), None),
             Answer::NoSession => refusal(alloc, out, Refused::NoSession, None),
             Answer::NoHand => refusal(alloc, out, Refused::NoHand, None),

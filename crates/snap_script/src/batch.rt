@@ -13,10 +13,10 @@ use crate::fault::{Field, ReadError};
 use crate::fields::{is_true, required_usage};
 use crate::operation::operations;
 use crate::parse::named;
-use crate::to_json::{maybe, member};
 use crate::unknown::FieldRule;
 use snap_json::{Token, Value, Writer};
 use snap_usage::Usage;
+use snap_values::{maybe, member};
 use std::alloc::{AllocError, Global};
 
 /// The batch of a line, by the fields that its operations may have.
@@ -52,7 +52,7 @@ fn all_done(
 }
 
 /// A batch of which an operation was refused.
-#[tactic(auto, using(crate::proofs::Maps::with_members_maybe))]
+#[tactic(auto, using(snap_values::proofs::Maps::with_members_maybe))]
 fn refused(
     alloc: Global,
     out: &mut Writer,

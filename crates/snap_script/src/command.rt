@@ -4,6 +4,7 @@ ghost use Rattle.snap_script.specs.Changes.{changes_store, opens_store};
 use crate::fault::Field;
 use snap_call::{Call, Config, Namespace, Question};
 use snap_path::Path;
+use snap_pieces::{Line as SavedLine, LineField};
 use snap_record::{Labels, Sequence, Text};
 use snap_upper::Op;
 use snap_usage::Usage;
@@ -126,6 +127,14 @@ pub enum Command {
     },
     /// Asks for the store's totals.
     Report,
+    /// A line of a saved store, or the first of its fields that is missing or isn't of its kind.
+    Restore(Result<SavedLine, LineField>),
+    /// Asks for the lines of the saved store: for the first of them, where it saves the store, or for those after a
+    /// number of lines of the one that was saved last, at most `most`.
+    Save {
+        after: u64,
+        most: u64,
+    },
 }
 
 /// What is asked of a path.
@@ -172,7 +181,8 @@ impl Command {
             | Command::Commit { .. }
             | Command::Discard { .. }
             | Command::File { .. }
-            | Command::Batch { .. } => true,
+            | Command::Batch { .. }
+            | Command::Restore(_) => true,
             Command::Ask(_)
             | Command::Lookup { .. }
             | Command::TrySweep { .. }
@@ -182,7 +192,8 @@ impl Command {
             | Command::Tree { .. }
             | Command::Diff { .. }
             | Command::Journal { .. }
-            | Command::Report => false,
+            | Command::Report
+            | Command::Save { .. } => false,
         }
     }
 }

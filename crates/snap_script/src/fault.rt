@@ -104,9 +104,9 @@ pub enum Fault {
     /// No UTF-8, or no JSON as `serde_json` reads it.
     NotJson,
     NotAnObject,
-    /// No store was opened, and the command isn't `open`.
+    /// No store was opened, and the command is neither `open` nor a line of a saved store.
     FirstLineMustBeOpen,
-    /// A store was opened, and the command is `open`.
+    /// A store was opened, and the command is `open` or a line of a saved store.
     OpenTwice,
     /// No command has the line's word; and the first word of a command that is one edit away from it, where there is
     /// one and it is told.
@@ -229,7 +229,7 @@ impl Field {
             ),
             Field::After => (
                 Found::Text,
-                "a text in a walk or a diff, a number of digits alone below 2^64 in a journal",
+                "a text in a walk or a diff, a number of digits alone below 2^64 in a journal or a save",
             ),
             Field::Kind => (Found::Text, "View, Active or Committed"),
             Field::Path | Field::From | Field::To => (Found::Text, "a path"),
@@ -433,6 +433,7 @@ impl fmt::Display for Fault {
                 let malformed = config_field_name(*field);
                 write!(f, "bad field open: malformed {malformed}")
             }
+            Fault::Refused(Refused::BadRestore(why)) => write!(f, "BadRestore: {why}"),
             Fault::Refused(why) => f.write_str(why.name()),
         }
     }

@@ -5,14 +5,12 @@
 //! operations in `specs/Operations.antt`, the kinds of their fields in `specs/Fields.antt`, and which fields a line may
 //! have, where unknown ones are faults, in `specs/Known.antt`. The line of an
 //! answer is `answer_line` in `specs/Answers.antt`. Where a client may give a line an id, this is `id_of` in
-//! `specs/Requests.antt`, and the line of a response `response_line` in `specs/Responses.antt`. The line that makes a
-//! call which an entry of a journal has is `call_line` in `specs/Calls.antt`.
+//! `specs/Requests.antt`, and the line of a response `response_line` in `specs/Responses.antt`.
 #![tactic(auto)]
 
 mod about;
 mod answer;
 mod batch;
-mod calls;
 mod command;
 mod fault;
 pub mod fields;
@@ -23,14 +21,13 @@ mod parse;
 mod refused;
 mod request;
 mod response;
-mod to_json;
+mod restore;
 mod unknown;
 mod values;
 mod verb;
 
 pub use about::Subjects;
 pub use answer::{Answer, JournalEntry, QuotaInfo, RefusedOperation, Shown, TreeNode};
-pub use calls::call_line;
 pub use command::{Command, Lookup, names_of};
 pub use fault::{Fault, Field, Found, OperationFault, ReadError};
 pub use line::{Line, MAX_LINE_BYTES, command_in, is_empty, read_line, read_object, read_open};
@@ -39,5 +36,6 @@ pub use parse::named;
 pub use refused::Refused;
 pub use request::{Id, Request, read_request};
 pub use response::Response;
+pub use restore::RestoreRefusal;
 pub use snap_json::Scratch;
 pub use unknown::{FieldRule, known_job};

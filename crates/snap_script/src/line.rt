@@ -1,6 +1,7 @@
 ghost use Rattle.std.specs.Prelude.{◌≡◌, IfOk, option_map};
 ghost use Rattle.snap_json.specs.View.{view};
-ghost use Rattle.snap_script.specs.Lines.{is_empty, object_in, allowed, command_in, session_known, opening_of, line_of};
+ghost use Rattle.snap_script.specs.Lines.{is_empty, object_in, allowed, command_in, opens, session_known, opening_of, line_of};
+ghost use Rattle.snap_script.specs.Words.{verb_of};
 ghost use Rattle.snap_script.specs.Gives.{Gives};
 ghost use Rattle.snap_script.specs.declared.fault.Fault.TheVariants.{NoSuchCommand};
 
@@ -80,11 +81,21 @@ fn allowed(alloc: Global, opened: bool, word: &str) -> Result<Verb, ReadError>
     ensures { Gives (λ verb. verb) result (allowed opened word.now) }
 {
     match (opened, verb_of(word)) {
-        (false, Some(Verb::Open)) => Ok(Verb::Open),
+        (false, Some(verb @ (Verb::Open | Verb::Restore))) => Ok(verb),
         (false, _) => Err(ReadError::Fault(Fault::FirstLineMustBeOpen)),
-        (true, Some(Verb::Open)) => Err(ReadError::Fault(Fault::OpenTwice)),
+        (true, Some(Verb::Open | Verb::Restore)) => Err(ReadError::Fault(Fault::OpenTwice)),
         (true, Some(verb)) => Ok(verb),
         (true, None) => Err(ReadError::Fault(no_such_command(alloc, near_command(word))?)),
+    }
+}
+
+/// That the word is that of `open`.
+fn is_open(word: &str) -> Result<(), Fault>
+    ensures { result ≡ opens (verb_of word.now) }
+{
+    match verb_of(word) {
+        Some(Verb::Open) => Ok(()),
+        _ => Err(Fault::FirstLineMustBeOpen),
     }
 }
 
@@ -136,7 +147,7 @@ pub fn read_open(alloc: Global, rule: FieldRule, line: &Value<'_>) -> Result<Con
     ensures { Gives (λ config. config) result (opening_of rule (view line.now)) }
 {
     let word = lent_text(Field::Do, line)?;
-    allowed(alloc, false, word)?;
+    is_open(word)?;
     known_fields(alloc, rule, Verb::Open, line)?;
     session_known(rule, line)?;
     config_of(alloc, line)

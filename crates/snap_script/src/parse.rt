@@ -14,6 +14,7 @@ use crate::fields::{
     required_usage, text, text_or_empty, usage_or,
 };
 use crate::operation::{file_operation, path_in};
+use crate::restore::restored;
 use crate::unknown::FieldRule;
 use crate::verb::{LookupVerb, Verb};
 use snap_call::limits::{DEFAULT_ANCESTORS, DEFAULT_SLOTS, MAX_JOURNAL};
@@ -30,6 +31,9 @@ const FIRST_ID: u32 = 1;
 
 /// How many snapshots a walk gives at most, entries a journal, and changes a diff, where the line doesn't say.
 const PAGE: u64 = 64;
+
+/// How many lines a `save` gives at most, whatever the line says.
+const SAVED_PAGE: u64 = 1024;
 
 /// The namespace (`ns`) and the key of the snapshot that a line names, both texts. Neither has to be well-formed. The
 /// cost grows with the texts.
@@ -439,5 +443,10 @@ pub(crate) fn command_of(
             full: is_true(Field::Full, line)?,
         }),
         Verb::Report => Ok(Command::Report),
+        Verb::Restore => Ok(Command::Restore(restored(alloc, line)?)),
+        Verb::Save => Ok(Command::Save {
+            after: number_or(0, Field::After, line)?,
+            most: number_or(SAVED_PAGE, Field::Most, line)?,
+        }),
     }
 }

@@ -2,10 +2,12 @@ ghost use Rattle.std.specs.Prelude.{◌≡◌};
 ghost use Rattle.snap_script.specs.Refusals.{free_at_refusal, refusal_in_answer, refused_from, refused_name};
 
 use crate::answer::Answer;
-use crate::values::{error_name, refusal_name};
+use crate::restore::RestoreRefusal;
+use crate::values::error_name;
 use snap_call::{Refusal, Reply};
 use snap_merge::FsError;
 use snap_usage::Usage;
+use snap_values::refusal_name;
 
 /// Why a command was refused.
 #[derive(Clone, Copy, Debug, PartialEq, Eq)]
@@ -20,6 +22,8 @@ pub enum Refused {
     NoHand,
     /// A snapshot is active, so no new round begins.
     StillOut,
+    /// A line of a saved store isn't taken, or the store of such lines isn't opened.
+    BadRestore(RestoreRefusal),
 }
 
 impl Refused {
@@ -33,6 +37,7 @@ impl Refused {
             Refused::NoSession => "NoSession",
             Refused::NoHand => "NoHand",
             Refused::StillOut => "StillOut",
+            Refused::BadRestore(_) => "BadRestore",
         }
     }
 
@@ -51,7 +56,8 @@ impl Refused {
             | Refused::File(_)
             | Refused::NoSession
             | Refused::NoHand
-            | Refused::StillOut => None,
+            | Refused::StillOut
+            | Refused::BadRestore(_) => None,
         }
     }
 
@@ -63,6 +69,7 @@ impl Refused {
             Refused::Book(_) => "book",
             Refused::File(_) => "file",
             Refused::NoSession | Refused::NoHand | Refused::StillOut => "world",
+            Refused::BadRestore(_) => "restore",
         }
     }
 }
@@ -79,6 +86,7 @@ impl Answer {
             Answer::NoSession => Some(Refused::NoSession),
             Answer::NoHand => Some(Refused::NoHand),
             Answer::StillOut => Some(Refused::StillOut),
+            Answer::BadRestore(why) => Some(Refused::BadRestore(*why)),
             Answer::Refused { why, of: _ } => Some(*why),
             Answer::Batch {
                 refused: Some(operation),
@@ -102,7 +110,8 @@ impl Answer {
             | Answer::Diff(_)
             | Answer::Journal(_)
             | Answer::Report { .. }
-            | Answer::Jobs { .. } => None,
+            | Answer::Jobs { .. }
+            | Answer::Saved { .. } => None,
         }
     }
 }

@@ -4,8 +4,8 @@ ghost use Rattle.snap_script.specs.Responses.{id_data, response_data, response_l
 use crate::answer::Answer;
 use crate::fault::Fault;
 use crate::request::Id;
-use crate::to_json::{ToJson, only, pair};
 use snap_json::Writer;
+use snap_values::{ToJson, only, pair};
 use std::alloc::{AllocError, Global};
 
 /// What a line is answered where each has an answer.

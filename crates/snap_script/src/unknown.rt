@@ -4,7 +4,7 @@ ghost use Rattle.std.specs.List.{list_all};
 ghost use Rattle.serde_json.specs.Find.{as_object};
 ghost use Rattle.snap_json.specs.View.{view, members_of};
 ghost use Rattle.snap_history.specs.declared.kind.CallKind.TheVariants as kinds;
-ghost use Rattle.snap_script.specs.Known.{common_fields, fields_of, is_field_among, is_known, job_fields, known_fields, known_job, known_operation, known_within, near_field, operation_fields, unknown_among};
+ghost use Rattle.snap_script.specs.Known.{common_fields, fields_of, is_field_among, is_known, is_restore, job_fields, known_fields, known_job, known_operation, known_within, near_field, operation_fields, unknown_among};
 ghost use Rattle.snap_script.specs.Gives.{Gives};
 ghost use Rattle.snap_script.specs.declared.verb.Verb.TheVariants as verbs;
 ghost use Rattle.snap_script.specs.declared.verb.FileVerb.TheVariants as file_verbs;
@@ -177,7 +177,8 @@ fn fields_of(verb: Verb) -> &'static [Field]
         Verb::Leases => &[Field::Namespace, Field::Lease],
         Verb::Diff => &[Field::Namespace, Field::Key, Field::After, Field::Most],
         Verb::Journal => &[Field::Namespace, Field::After, Field::Most, Field::Full],
-        Verb::Report => &[],
+        Verb::Save => &[Field::After, Field::Most],
+        Verb::Report | Verb::Restore => &[],
     }
 }
 
@@ -281,7 +282,30 @@ fn known_within(
     }
 }
 
-/// That the line of a command has no field but those that it may have.
+/// Whether the command is a line of a saved store.
+fn is_restore(verb: Verb) -> bool
+    ensures { result ≡ is_restore verb }
+{
+    match verb {
+        Verb::Restore => true,
+        Verb::Open
+        | Verb::Reopen
+        | Verb::Roll
+        | Verb::Call(_)
+        | Verb::File(_)
+        | Verb::Batch
+        | Verb::Lookup(_)
+        | Verb::Quota
+        | Verb::Leases
+        | Verb::Tree
+        | Verb::Diff
+        | Verb::Journal
+        | Verb::Report
+        | Verb::Save => false,
+    }
+}
+
+/// That the line of a command has no field but those that it may have. A line of a saved store may have any.
 #[tactic(auto, unfolding(crate::specs::Known::known_fields))]
 pub(crate) fn known_fields(
     alloc: Global,
@@ -291,6 +315,9 @@ pub(crate) fn known_fields(
 ) -> Result<(), ReadError>
     ensures { Gives (λ done. done) result (known_fields rule verb (view line.now)) }
 {
+    if is_restore(verb) {
+        return Ok(());
+    }
     match rule {
         FieldRule::Any => Ok(()),
         FieldRule::Known | FieldRule::KnownAndId => {

@@ -3,75 +3,23 @@ ghost use Rattle.std.specs.Prelude.{◌≡◌, OnOk, Some};
 ghost use Rattle.serde_json.specs.Data.{string};
 ghost use Rattle.snap_call.specs.declared.reply.Reply.TheVariants as replies;
 ghost use Rattle.snap_json.specs.Tokens.{with_value};
-ghost use Rattle.snap_script.specs.Answers.{answer_data, bad_config_data, entry_data, info_data, lease_data, mount_data, refusal_data, reply_data, shown_data};
-ghost use Rattle.snap_script.specs.Refusals.{config_field_name, error_name, refusal_name};
+ghost use Rattle.snap_script.specs.Answers.{answer_data, bad_config_data, entry_data, refusal_data, reply_data, shown_data};
+ghost use Rattle.snap_script.specs.Refusals.{config_field_name, error_name};
 ghost use Rattle.snap_script.specs.Faults.{field_name};
 ghost use Rattle.snap_script.specs.declared.answer.Answer.TheVariants as answers;
 ghost use Rattle.snap_script.specs.declared.answer.Shown.TheVariants as shown;
 
-use crate::answer::{JournalEntry, QuotaInfo};
+use crate::answer::{JournalEntry, QuotaInfo, Shown};
 use crate::fault::Field;
 use crate::refused::Refused;
-use crate::to_json::{ToJson, by_name, maybe, member, only, pair};
 use snap_call::{ConfigField, Refusal, Reply};
 use snap_json::{Token, Writer};
 use snap_layer::Bytes;
-use snap_lease::LeaseInfo;
 use snap_merge::FsError;
-use snap_mount::Mount;
-use snap_record::{Info, Sequence, Text};
+use snap_record::{Sequence, Text};
 use snap_usage::Usage;
+use snap_values::{ToJson, by_name, maybe, member, only, pair, refusal_name};
 use std::alloc::{AllocError, Global};
-
-impl ToJson for Info {
-    ghost value = { info_data };
-
-    fn write(&self, alloc: Global, out: &mut Writer) -> Result<(), AllocError> {
-        out.token(Token::BeginObject)?;
-        member(alloc, out, "created", &self.created)?;
-        member(alloc, out, "id", &self.id)?;
-        member(alloc, out, "kind", &self.kind.as_str())?;
-        member(alloc, out, "labels", &self.labels)?;
-        member(alloc, out, "name", &self.name)?;
-        member(alloc, out, "parent", &self.parent)?;
-        member(alloc, out, "updated", &self.updated)?;
-        out.token(Token::EndObject)
-    }
-}
-
-impl ToJson for Mount {
-    ghost value = { mount_data };
-
-    fn write(&self, alloc: Global, out: &mut Writer) -> Result<(), AllocError> {
-        out.token(Token::BeginObject)?;
-        member(alloc, out, "options", &self.options)?;
-        member(alloc, out, "source", &self.source)?;
-        member(alloc, out, "type", &self.kind.as_str())?;
-        out.token(Token::EndObject)
-    }
-}
-
-impl ToJson for LeaseInfo {
-    ghost value = { lease_data };
-
-    #[tactic(auto, using(crate::proofs::Maps::with_members_maybe))]
-    fn write(&self, alloc: Global, out: &mut Writer) -> Result<(), AllocError> {
-        out.token(Token::BeginObject)?;
-        member(alloc, out, "lease", &self.name())?;
-        member(alloc, out, "names", &self.names())?;
-        maybe(alloc, out, "until", &self.until())?;
-        out.token(Token::EndObject)
-    }
-}
-
-/// The refusal's name alone.
-impl ToJson for Refusal {
-    ghost value = { λ why. string (refusal_name why) };
-
-    fn write(&self, _alloc: Global, out: &mut Writer) -> Result<(), AllocError> {
-        out.token(Token::String(refusal_name(*self)))
-    }
-}
 
 /// The field's name.
 impl ToJson for Field {
@@ -85,7 +33,7 @@ impl ToJson for Field {
 impl ToJson for JournalEntry {
     ghost value = { entry_data };
 
-    #[tactic(auto, using(crate::proofs::Maps::with_members_maybe))]
+    #[tactic(auto, using(snap_values::proofs::Maps::with_members_maybe))]
     fn write(&self, alloc: Global, out: &mut Writer) -> Result<(), AllocError> {
         let entry = &self.entry;
         out.token(Token::BeginObject)?;
@@ -103,7 +51,7 @@ impl ToJson for JournalEntry {
 }
 
 /// A file whose size alone is kept.
-pub(crate) fn sized(
+fn sized(
     alloc: Global,
     out: &mut Writer,
     mode: u32,
@@ -119,32 +67,16 @@ pub(crate) fn sized(
     out.token(Token::EndObject)
 }
 
-/// The name of a refusal in answers.
-pub(crate) fn refusal_name(refusal: Refusal) -> &'static str
-    ensures { result.now ≡ refusal_name refusal }
+/// What is seen, or null.
+fn shown(alloc: Global, out: &mut Writer, found: &Option<Shown>) -> Result<(), AllocError>
+    ensures { OnOk result (out.new ≡ with_value (shown_data found.now) out.old) }
 {
-    match refusal {
-        Refusal::BadArgument => "BadArgument",
-        Refusal::NoNamespace => "NoNamespace",
-        Refusal::NamespaceExists => "NamespaceExists",
-        Refusal::TooManyNamespaces => "TooManyNamespaces",
-        Refusal::NotEmpty => "NotEmpty",
-        Refusal::NotFound => "NotFound",
-        Refusal::AlreadyExists => "AlreadyExists",
-        Refusal::NotCommitted => "NotCommitted",
-        Refusal::NotActive => "NotActive",
-        Refusal::HasChildren => "HasChildren",
-        Refusal::InUse => "InUse",
-        Refusal::Leased => "Leased",
-        Refusal::NoLease => "NoLease",
-        Refusal::LeaseExists => "LeaseExists",
-        Refusal::TooDeep => "TooDeep",
-        Refusal::TooManyActives => "TooManyActives",
-        Refusal::OverLimit { .. } => "OverLimit",
-        Refusal::BelowCharge => "BelowCharge",
-        Refusal::NumbersSpent => "NumbersSpent",
-        Refusal::JournalFull => "JournalFull",
-        Refusal::OutOfMemory(_) => "OutOfMemory",
+    match found {
+        None => out.token(Token::Null),
+        Some(Shown::Dir { mode }) => only(alloc, out, "dir", mode),
+        Some(Shown::File { mode, size }) => pair(alloc, out, "file", mode, "size", size),
+        Some(Shown::Sized { mode, size, digest }) => sized(alloc, out, *mode, *size, digest),
+        Some(Shown::Symlink { target }) => only(alloc, out, "symlink", target),
     }
 }
 
@@ -171,7 +103,7 @@ pub(crate) fn error_name(error: FsError) -> &'static str
 }
 
 /// A refusal, with what is free where it is over the limit, and with the field that it is about where that is told.
-#[tactic(auto, using(crate::proofs::Maps::with_members_maybe))]
+#[tactic(auto, using(snap_values::proofs::Maps::with_members_maybe))]
 pub(crate) fn refusal(
     alloc: Global,
     out: &mut Writer,
@@ -215,6 +147,15 @@ pub(crate) fn bad_config(
     member(alloc, out, "error", &refusal_name(Refusal::BadArgument))?;
     member(alloc, out, "field", &config_field_name(field))?;
     member(alloc, out, "from", &"book")?;
+    out.token(Token::EndObject)
+}
+
+pub(crate) fn seen(alloc: Global, out: &mut Writer, found: &Option<Shown>) -> Result<(), AllocError>
+    ensures { OnOk result (out.new ≡ with_value (answer_data (answers.Seen found.now)) out.old) }
+{
+    out.token(Token::BeginObject)?;
+    out.token(Token::Key("seen"))?;
+    shown(alloc, out, found)?;
     out.token(Token::EndObject)
 }
 
@@ -302,27 +243,25 @@ fn swept(
 }
 
 /// What the store replies to a call.
-impl ToJson for Reply {
-    ghost value = { reply_data };
-
-    fn write(&self, alloc: Global, out: &mut Writer) -> Result<(), AllocError> {
-        match self {
-            Reply::Opened | Reply::Trimmed | Reply::Done => only(alloc, out, "ok", &true),
-            Reply::Prepared { id, slot, chain } => prepared(alloc, out, *id, *slot, chain),
-            Reply::Viewed { id, chain } => pair(alloc, out, "chain", chain, "id", id),
-            Reply::Charged { now } => only(alloc, out, "share", now),
-            Reply::Committed { id, usage } => pair(alloc, out, "id", id, "usage", usage),
-            Reply::Discarded(amount) | Reply::Removed(amount) => only(alloc, out, "freed", amount),
-            Reply::Info(info) => only(alloc, out, "info", info),
-            Reply::Usage(amount) => only(alloc, out, "usage", amount),
-            Reply::Mounts(own) => only(alloc, out, "mounts", own),
-            Reply::Page(own) => only(alloc, out, "infos", own),
-            Reply::Swept {
-                removed,
-                leases,
-                freed,
-            } => swept(alloc, out, removed, *leases, *freed),
-            Reply::Refused(why) => refusal(alloc, out, Refused::Book(*why), None),
-        }
+pub(crate) fn reply(alloc: Global, out: &mut Writer, told: &Reply) -> Result<(), AllocError>
+    ensures { OnOk result (out.new ≡ with_value (reply_data told.now) out.old) }
+{
+    match told {
+        Reply::Opened | Reply::Trimmed | Reply::Done => only(alloc, out, "ok", &true),
+        Reply::Prepared { id, slot, chain } => prepared(alloc, out, *id, *slot, chain),
+        Reply::Viewed { id, chain } => pair(alloc, out, "chain", chain, "id", id),
+        Reply::Charged { now } => only(alloc, out, "share", now),
+        Reply::Committed { id, usage } => pair(alloc, out, "id", id, "usage", usage),
+        Reply::Discarded(amount) | Reply::Removed(amount) => only(alloc, out, "freed", amount),
+        Reply::Info(info) => only(alloc, out, "info", info),
+        Reply::Usage(amount) => only(alloc, out, "usage", amount),
+        Reply::Mounts(own) => only(alloc, out, "mounts", own),
+        Reply::Page(own) => only(alloc, out, "infos", own),
+        Reply::Swept {
+            removed,
+            leases,
+            freed,
+        } => swept(alloc, out, removed, *leases, *freed),
+        Reply::Refused(why) => refusal(alloc, out, Refused::Book(*why), None),
     }
 }

@@ -22,6 +22,8 @@ pub(crate) enum Verb {
     Diff,
     Journal,
     Report,
+    Restore,
+    Save,
 }
 
 /// The file commands by their words.
@@ -60,7 +62,7 @@ pub(crate) enum LookupVerb {
 }
 
 /// The commands by their words: those of the calls, as a journal has them, then the others.
-const WORDS: [(&str, Verb); 49] = [
+const WORDS: [(&str, Verb); 51] = [
     ("session", Verb::Call(CallKind::Session)),
     ("prepare", Verb::Call(CallKind::Prepare)),
     ("view", Verb::Call(CallKind::View)),
@@ -110,6 +112,8 @@ const WORDS: [(&str, Verb); 49] = [
     ("diff", Verb::Diff),
     ("journal", Verb::Journal),
     ("report", Verb::Report),
+    ("restore", Verb::Restore),
+    ("save", Verb::Save),
 ];
 
 /// The verb of a word.

@@ -5,5 +5,7 @@ pub mod Serving
 pub mod Asking
 pub mod Keeping
 pub mod Batching
+mod Paging
+mod Restoring
 mod Told
 pub mod Whole

@@ -259,6 +259,8 @@ on_store s n (commands.Tree namespace) = (s.world, tree s.world.state namespace)
 on_store s n (commands.Diff namespace key after most) = (s.world, diff s.world namespace key after most)
 on_store s n (commands.Journal namespace after most full) = (s.world, journal_of s.world (carried_of s.world.opening.namespaces s.world.opening.records) namespace after most full)
 on_store s n commands.Report = (s.world, report s)
+on_store s n (commands.Restore line) = (s.world, refusal_answer BadArgument)
+on_store s n (commands.Save after most) = (s.world, refusal_answer BadArgument)
 
 -- ---- opening
 

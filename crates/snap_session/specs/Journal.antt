@@ -13,7 +13,7 @@ use Rattle.snap_call.specs.declared.refusal.Refusal.TheVariants.{BadArgument, No
 use Rattle.snap_history.specs.History.{entries_from, history_page, history_since, namespace_in}
 use Rattle.snap_history.specs.declared.info.EntryInfo.{EntryInfo}
 use Rattle.snap_world.specs.World.{WorldValue}
-use Rattle.snap_script.specs.Calls.{call_line}
+use Rattle.snap_values.specs.Calls.{call_line}
 use Rattle.snap_script.specs.declared.answer.JournalEntry.{JournalEntry}
 use Rattle.snap_script.specs.declared.answer.Answer.{Answer}
 use Rattle.snap_script.specs.declared.answer.Answer.TheVariants as answers

@@ -15,6 +15,7 @@ use Rattle.snap_marks.specs.Marks.{is_mark_line}
 use Rattle.snap_marks.specs.Sums.{mark_behind, mark_compared, no_sums, passed, summed}
 use Rattle.snap_lines.specs.Transcripts.{next_line}
 use Rattle.snap_session.specs.Opened.{ScriptValue}
+use Rattle.snap_session.specs.Script.{SteppedValue}
 use Rattle.snap_session.specs.Service.{ServerValue, effect_responded, idle, responded}
 
 -- a server, whether lines that change its store are carried out: where they can't be kept, they aren't; and the sums of those that were, and of their answers
@@ -33,11 +34,11 @@ kept_so keeps v = record { server = v.server; keeps = keeps; sums = v.sums }
 
 -- the same, and the next line is the first
 abbrev pub counted_anew : KeptValue → KeptValue
-counted_anew v = record { server = record { script = v.server.script; lines = 0 }; keeps = v.keeps; sums = v.sums }
+counted_anew v = record { server = record { stepped = v.server.stepped; lines = 0 }; keeps = v.keeps; sums = v.sums }
 
 -- a store stands, and stands for good
 abbrev pub has_store : KeptValue → Bool
-has_store v = is_some v.server.script.store
+has_store v = is_some v.server.stepped.script.store
 
 -- what was read of a line is a command that may change a store, or opens one
 abbrev pub is_changing : Result Line Fault → Bool
@@ -51,11 +52,11 @@ kept_line s bytes = if is_mark_line bytes then Ok Empty else line_of KnownAndId 
 
 -- the line would change a store, or open one
 abbrev pub would_change : KeptValue → List ℕ → Bool
-would_change v bytes = is_changing (kept_line v.server.script bytes)
+would_change v bytes = is_changing (kept_line v.server.stepped.script bytes)
 
 -- what was read of the next line, and what it makes of the script: as of any server, or nothing, where it changes one and such lines aren't carried out
-abbrev pub responded_kept : KeptValue → Result Line Fault → ScriptValue × Response
-responded_kept v line = if v.keeps || not (is_changing line) then responded v.server.script (next_line v.server.lines) line else (v.server.script, NotKept)
+abbrev pub responded_kept : KeptValue → Result Line Fault → SteppedValue × Response
+responded_kept v line = if v.keeps || not (is_changing line) then responded v.server.stepped (next_line v.server.lines) line else (v.server.stepped, NotKept)
 
 -- the sums behind a line that has this text: a mark is compared with them, and a line that was kept and carried out is added
 abbrev pub sums_after : KeptValue → List ℕ → List ℕ → Sums
@@ -70,7 +71,7 @@ effect_summed v bytes e = record { value = record { server = e.value; keeps = v.
 
 -- what the bytes of a line do, which has no fault
 unfoldable pub served_kept : Effects KeptValue
-served_kept v bytes = Ok (effect_summed v bytes (effect_responded (next_line v.server.lines) (id_of bytes) (responded_kept v (kept_line v.server.script bytes))))
+served_kept v bytes = Ok (effect_summed v bytes (effect_responded (next_line v.server.lines) (id_of bytes) (responded_kept v (kept_line v.server.stepped.script bytes))))
 
 -- the mark that is kept behind further lines
 abbrev pub mark_of : KeptValue → List ℕ → List ℕ
@@ -84,4 +85,4 @@ pub record KeptPart : Type 0 where
 
 -- this part of a server
 abbrev pub kept_part : KeptValue → KeptPart
-kept_part v = record { script = v.server.script; lines = v.sums.lines; answers = v.sums.answers }
+kept_part v = record { script = v.server.stepped.script; lines = v.sums.lines; answers = v.sums.answers }

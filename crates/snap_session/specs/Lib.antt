@@ -9,6 +9,8 @@ pub mod Journal
 pub mod Diff
 pub mod Commands
 pub mod Wanting
+pub mod Pages
+pub mod Restoring
 pub mod Script
 pub mod Service
 pub mod Kept

@@ -9,19 +9,23 @@ use Rattle.snap_call.specs.declared.config.Namespace.{Namespace}
 use Rattle.snap_call.specs.Records.{charge_of}
 use Rattle.snap_call.specs.State.{is_taken, opening, place_of}
 use Rattle.snap_world.specs.World.{WorldValue, hand_at}
+use Rattle.snap_checkpoint.specs.Lines.{LineGatheringValue}
+use Rattle.snap_script.specs.declared.restore.RestoreRefusal.{RestoreRefusal}
 
 -- a world
 pub record OpenedValue : Type 0 where
   pub world : WorldValue
 
--- the store that a script has opened, or none; and whether, without one, the name is gone that it would have
+-- the store that a script has opened, or none; what lines of a saved store have made without one; why such a store wasn't opened, after which none is; and whether, without one, memory was refused for one, after which none is either
 pub record ScriptValue : Type 0 where
   pub store : Option OpenedValue
+  pub gathered : Option LineGatheringValue
+  pub lost : Option RestoreRefusal
   pub spent : Bool
 
 -- before the first line
 abbrev pub unopened : ScriptValue
-unopened = record { store = None; spent = false }
+unopened = record { store = None; gathered = None; lost = None; spent = false }
 
 -- the world that a configuration opens
 abbrev pub new_world : Config → WorldValue

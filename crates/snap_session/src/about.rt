@@ -192,7 +192,9 @@ pub(crate) fn subjects(command: &Command) -> Subjects
         | Command::Quota { .. }
         | Command::Leases { .. }
         | Command::Tree { .. }
-        | Command::Report => {}
+        | Command::Report
+        | Command::Restore(_)
+        | Command::Save { .. } => {}
     }
     own
 }
@@ -285,6 +287,10 @@ pub(crate) fn about_operation<N: StoreName>(
             Some(field) => Some(field),
             None => own,
         },
-        Refused::Book(_) | Refused::NoSession | Refused::NoHand | Refused::StillOut => own,
+        Refused::Book(_)
+        | Refused::NoSession
+        | Refused::NoHand
+        | Refused::StillOut
+        | Refused::BadRestore(_) => own,
     }
 }

@@ -7,7 +7,8 @@ use snap_call::{Call, Entry, Refusal, Reply, SharedEntry, is_page};
 use snap_history::{EntryInfo, entries_after, history, namespace_in};
 use snap_ledger::StoreName;
 use snap_record::{Sequence, Text};
-use snap_script::{Answer, JournalEntry, call_line};
+use snap_script::{Answer, JournalEntry};
+use snap_values::call_line;
 use snap_world::{NoMemory, World};
 use std::alloc::{AllocError, Global};
 

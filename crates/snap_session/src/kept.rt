@@ -107,7 +107,7 @@ impl<N: StoreName> KeptServer<N> {
     // Reads a line with its id.
     fn read(&mut self, alloc: Global, line: &[u8]) -> Result<Request, NoMemory>
         ensures id { IfOk result (λ request. request.id ≡ id_of line.now) }
-        ensures line { IfOk result (λ request. request.line ≡ kept_line self.old.server.script line.now) }
+        ensures line { IfOk result (λ request. request.line ≡ kept_line self.old.server.stepped.script line.now) }
         ensures same { self.new ≡ self.old }
     {
         let mut request = self.server.read(alloc, line)?;
@@ -119,7 +119,7 @@ impl<N: StoreName> KeptServer<N> {
 
     // Carries out what was read of the next line, or passes over it.
     fn respond(&mut self, line: Result<Line, Fault>) -> Result<Response, NoMemory>
-        ensures script { IfOk result (λ response. responded_kept self.old line ≡ (self.new.server.script, response)) }
+        ensures stepped { IfOk result (λ response. responded_kept self.old line ≡ (self.new.server.stepped, response)) }
         ensures lines { OnOk result (self.new.server.lines ≡ next_line self.old.server.lines) }
         ensures keeps { OnOk result (self.new.keeps ≡ self.old.keeps) }
         ensures sums { OnOk result (self.new.sums ≡ self.old.sums) }

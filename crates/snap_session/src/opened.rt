@@ -108,7 +108,8 @@ fn on_store<N: StoreName>(
     ensures carried { carried.new ≡ carried_of world.new.opening.namespaces world.new.opening.records }
 {
     match command {
-        Command::Open { config: _ } => Ok(Answer::refused(Refusal::BadArgument)),
+        Command::Open { config: _ } | Command::Restore(_) | Command::Save { after: _, most: _ } =>
+            Ok(Answer::refused(Refusal::BadArgument)),
         Command::Session => session(world),
         Command::Reopen { journal } => reopen(alloc, world, carried, journal),
         Command::Roll { journal } => roll(alloc, world, carried, journal),
@@ -188,6 +189,21 @@ impl<N: StoreName> Opened<N> {
             world,
             carried: Sequence::new(alloc),
         }
+    }
+
+    // The world of a saved store, with the snapshots that were active when it was saved.
+    pub(crate) fn with_carried(world: World<N>, carried: Sequence<Carried>) -> Opened<N>
+        requires { carried ≡ carried_of world.opening.namespaces world.opening.records }
+        ensures { result ≡ record { world = world } }
+    {
+        Opened { world, carried }
+    }
+
+    // The world.
+    pub(crate) fn world(&self) -> &World<N>
+        ensures { result.now ≡ self.now.world }
+    {
+        &self.world
     }
 
     // A command by a session of this number.

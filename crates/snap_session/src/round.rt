@@ -35,7 +35,7 @@ pub(crate) fn is_started(answer: &StepAnswer) -> bool
 }
 
 // Session 0 of a round that was begun.
-fn open_round<N: StoreName>(world: &mut World<N>) -> Result<Answer, NoMemory>
+pub(crate) fn open_round<N: StoreName>(world: &mut World<N>) -> Result<Answer, NoMemory>
     ensures done { IfOk result (λ answer. round_opened (move world.old (Locked 0 calls.Session)) ≡ (world.new, answer)) }
     ensures opening { world.new.opening ≡ world.old.opening }
 {

@@ -3,7 +3,7 @@ ghost use Rattle.snap_lines.specs.Transcripts.{Tells};
 ghost use Rattle.snap_script.specs.Gives.{Gives};
 ghost use Rattle.snap_session.specs.Script.{HasStopped, effect_of, script, text_told, unbegun};
 
-use crate::script::Script;
+use crate::stepper::Stepper;
 use snap_ledger::{NewTable, StoreName};
 use snap_lines::{MAX_BYTES, Stop, TakeLine, read_lines};
 use snap_script::{Answer, Fault, FieldRule, ReadError, Scratch, read_line};
@@ -26,7 +26,7 @@ pub struct RunOptions {
 /// Runs the lines of a script. Contracts see the script and how it is run.
 #[derive(Drop)]
 pub struct Runner<N: StoreName> {
-    script: Script<N>,
+    stepper: Stepper<N>,
     options: RunOptions,
     scratch: Scratch,
 }
@@ -36,7 +36,7 @@ impl<N: StoreName> Model for Runner<N> {
 
     ghost Value = { RunnerValue };
 
-    ghost view = { λ s. record { script = s.script; options = s.options } };
+    ghost view = { λ s. record { stepped = s.stepper; options = s.options } };
 }
 
 impl<N: StoreName> Runner<N> {
@@ -46,7 +46,7 @@ impl<N: StoreName> Runner<N> {
         ensures { result ≡ unbegun options }
     {
         Runner {
-            script: Script::new(alloc, table),
+            stepper: Stepper::new(alloc, table),
             options,
             scratch: Scratch::new(alloc),
         }
@@ -71,9 +71,9 @@ impl<N: StoreName> TakeLine for Runner<N> {
 
     #[tactic(auto, unfolding(crate::specs::Script::effect_of))]
     fn take_line(&mut self, alloc: Global, line: &[u8]) -> Result<Option<String>, ReadError> {
-        let opened = self.script.is_open();
+        let opened = self.stepper.is_open();
         let line = read_line(alloc, line, self.options.fields, opened, &mut self.scratch)?;
-        match self.script.step(line)? {
+        match self.stepper.step(line)? {
             Some(answer) => Ok(Some(text_told(alloc, self.options, answer)?)),
             None => Ok(None),
         }

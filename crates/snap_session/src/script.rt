@@ -1,21 +1,25 @@
-ghost use Rattle.std.specs.Prelude.{◌≡◌, ◌≤◌, [], IfOk, OnOk, None, true, false, is_some};
+ghost use Rattle.std.specs.Prelude.{◌≡◌, ◌≤◌, [], IfOk, OnOk, None, true, false, is_some, option_copied, option_map};
 ghost use Rattle.snap_call.specs.Forms.{is_config};
 ghost use Rattle.snap_call.specs.declared.call.Call.TheVariants as calls;
 ghost use Rattle.snap_script.specs.Changes.{changes_store};
 ghost use Rattle.snap_world.specs.declared.step.Answer.{Answer as StepAnswer};
 ghost use Rattle.snap_world.specs.declared.step.Step.TheVariants.{Locked};
 ghost use Rattle.snap_world.specs.Move.{move};
-ghost use Rattle.snap_session.specs.Commands.{is_started, store_begun, store_opened, command_done};
+ghost use Rattle.snap_session.specs.Commands.{is_started, store_begun};
 ghost use Rattle.snap_session.specs.Opened.{new_world, unopened};
-ghost use Rattle.snap_session.specs.Script.{script_step};
+ghost use Rattle.snap_session.specs.Restoring.{begun_again, restored_by, store_restored};
+ghost use Rattle.snap_session.specs.Script.{first_done, opened_by, script_done, with_store};
 
 use crate::opened::Opened;
+use crate::restore::{begun_again, store_told, world_told};
 use crate::round::is_started;
 use crate::step::call;
 use snap_call::{Call, Config, Refusal, Reply};
+use snap_checkpoint::LineGathering;
 use snap_ledger::{NewTable, StoreName};
-use snap_script::{Answer, Command, Line};
-use snap_world::{NoMemory, World};
+use snap_pieces::{Line as SavedLine, LineField};
+use snap_script::{Answer, Command, RestoreRefusal};
+use snap_world::{NoMemory, SavedWorld, World};
 use std::alloc::Global;
 use std::marker::Model;
 
@@ -23,12 +27,14 @@ use std::marker::Model;
 /// whether the name of a store is spent without one.
 ///
 /// The table names the store, and goes to the first one that is opened. Where that is refused memory, the name is
-/// spent, and the refusal is kept for a later `Open`.
+/// spent, and the refusal is kept for a later `Open`. So it is where a saved store can't be opened.
 #[derive(Drop)]
 pub struct Script<N: StoreName> {
     alloc: Global,
     table: Option<NewTable>,
     refused: Option<NoMemory>,
+    lost: Option<RestoreRefusal>,
+    gathering: LineGathering,
     store: Option<Opened<N>>,
 }
 
@@ -38,10 +44,10 @@ impl<N: StoreName> Model for Script<N> {
 
     ghost Value = { ScriptValue };
 
-    ghost view = { λ s. record { store = s.store; spent = is_some s.refused } };
+    ghost view = { λ s. record { store = s.store; gathered = s.gathering; lost = s.lost; spent = is_some s.refused } };
 
-    // The table is there until a store is opened with it or memory is refused.
-    ghost invariant = { λ s. IfSome s.table (λ t. t ≡ N.table) × ((is_some s.table || (is_some s.refused || is_some s.store)) ≡ true) };
+    // The table is there until a store is opened with it, memory is refused or a saved store can't be opened.
+    ghost invariant = { λ s. IfSome s.table (λ t. t ≡ N.table) × ((is_some s.table || (is_some s.refused || (is_some s.lost || is_some s.store))) ≡ true) };
 }
 
 // A world of the configuration, which is valid and has room for an entry, with its session 0.
@@ -74,6 +80,8 @@ impl<N: StoreName> Script<N> {
             alloc,
             table: Some(table),
             refused: None,
+            lost: None,
+            gathering: LineGathering::new(alloc),
             store: None,
         }
     }
@@ -90,8 +98,8 @@ impl<N: StoreName> Script<N> {
         requires valid { is_config config ≡ true }
         requires room { 1 ≤ config.journal }
         requires none { self.old.store ≡ None }
-        ensures store { IfOk result (λ answer. store_begun config ≡ (self.new.store, answer)) }
-        ensures spent { OnOk result (self.new.spent ≡ self.old.spent) }
+        requires not_lost { self.old.lost ≡ None }
+        ensures { IfOk result (λ answer. with_store self.old (store_begun config) ≡ (self.new, answer)) }
     {
         if let Some(no_memory) = self.refused {
             return Err(no_memory);
@@ -111,12 +119,17 @@ impl<N: StoreName> Script<N> {
         }
     }
 
-    // The first command.
+    // The first command, where it isn't a line of a saved store.
     fn open(&mut self, config: Config) -> Result<Answer, NoMemory>
         requires { self.old.store ≡ None }
-        ensures store { IfOk result (λ answer. store_opened config ≡ (self.new.store, answer)) }
-        ensures spent { OnOk result (self.new.spent ≡ self.old.spent) }
+        ensures { IfOk result (λ answer. opened_by self.old config ≡ (self.new, answer)) }
     {
+        if let Some(why) = self.lost {
+            return Ok(Answer::BadRestore(why));
+        }
+        if self.gathering.has_begun() {
+            return Ok(Answer::BadRestore(RestoreRefusal::Misplaced));
+        }
         if let Some(field) = config.bad_field() {
             return Ok(Answer::BadConfig(field));
         }
@@ -126,44 +139,107 @@ impl<N: StoreName> Script<N> {
         self.start(config)
     }
 
+    // The saved store that lines have made, and its session 0.
+    fn open_saved(&mut self, saved: SavedWorld) -> Result<Answer, NoMemory>
+        requires none { self.old.store ≡ None }
+        requires not_lost { self.old.lost ≡ None }
+        ensures { IfOk result (λ answer. store_restored self.old (begun_again saved) ≡ (self.new, answer)) }
+    {
+        if let Some(no_memory) = self.refused {
+            return Err(no_memory);
+        }
+        let Some(table) = self.table.take() else {
+            unreachable!()
+        };
+        let fault = match begun_again(self.alloc, table, saved) {
+            Ok((opened, answer)) => {
+                self.store = Some(opened);
+                return Ok(answer);
+            }
+            Err(fault) => fault,
+        };
+        match world_told(fault) {
+            Ok(why) => {
+                self.lost = Some(why);
+                Ok(Answer::BadRestore(why))
+            }
+            Err(no_memory) => {
+                self.refused = Some(no_memory);
+                Err(no_memory)
+            }
+        }
+    }
+
+    // A line of a saved store.
+    fn restore(&mut self, line: Result<SavedLine, LineField>) -> Result<Answer, NoMemory>
+        requires { self.old.store ≡ None }
+        ensures { IfOk result (λ answer. restored_by self.old line ≡ (self.new, answer)) }
+    {
+        if let Some(why) = self.lost {
+            return Ok(Answer::BadRestore(why));
+        }
+        let line = match line {
+            Ok(line) => line,
+            Err(field) => {
+                self.gathering = LineGathering::new(self.alloc);
+                return Ok(Answer::BadRestore(RestoreRefusal::BadField(field)));
+            }
+        };
+        match self.gathering.put(line) {
+            Ok(None) => Ok(Answer::Reply(Reply::Done)),
+            Ok(Some(saved)) => self.open_saved(saved),
+            Err(fault) => Ok(Answer::BadRestore(store_told(fault)?)),
+        }
+    }
+
+    // A command where no store stands.
+    fn begin(&mut self, command: Command) -> Result<Answer, NoMemory>
+        requires { self.old.store ≡ None }
+        ensures { IfOk result (λ answer. first_done self.old command ≡ (self.new, answer)) }
+    {
+        match command {
+            Command::Open { config } => self.open(config),
+            Command::Restore(line) => self.restore(line),
+            _ => Ok(Answer::NoSession),
+        }
+    }
+
     // A command by a session of this number.
     fn carry_out(&mut self, n: u64, command: Command) -> Result<Answer, NoMemory>
-        ensures done { IfOk result (λ answer. command_done self.old.store n command ≡ (self.new.store, answer)) }
-        ensures spent { OnOk result (self.new.spent ≡ self.old.spent) }
+        ensures { IfOk result (λ answer. script_done self.old n command ≡ (self.new, answer)) }
     {
         match &mut self.store {
             Some(opened) => opened.act(self.alloc, n, command),
-            None => match command {
-                Command::Open { config } => self.open(config),
-                _ => Ok(Answer::NoSession),
-            },
+            None => self.begin(command),
+        }
+    }
+
+    // The world, where a store stands.
+    pub(crate) fn world(&self) -> Option<&World<N>>
+        ensures { option_copied result ≡ option_map (λ opened. opened.world) self.now.store }
+    {
+        match &self.store {
+            Some(opened) => Some(opened.world()),
+            None => None,
         }
     }
 
     /// A command by a session of this number: its answer, and what it makes of the store.
     ///
-    /// Without a store every command but `Open` is answered `NoSession`; with one, `Open` is refused as
-    /// a bad argument and the store stays. No line of a script asks for either. A malformed `Open` is answered
+    /// Without a store every command but `Open` and `Restore` is answered `NoSession`; with one, these are refused as
+    /// a bad argument and the store stays. No line of a script asks for either. Of `Save` it is always refused: a
+    /// [`Stepper`](crate::Stepper) answers it. A malformed `Open` is answered
     /// `BadConfig` with its first malformed field; it, and one whose journal has no room, leave the name to a later
     /// one. `NoMemory` where memory was refused; the run of a script ends with it, and nothing is said of the store.
     /// An `Open` that it ends may have spent the store's name, so that a later one answers `NoMemory` too. The cost is
     /// that of the command's steps, at most three, but of a batch one and at most three for each operation, and for a
-    /// whole one a copy of the layer.
+    /// whole one a copy of the layer; of a `Restore` that of [`LineGathering::put`], and for the last line also that of
+    /// [`World::restore`].
     pub fn act(&mut self, n: u64, command: Command) -> Result<Answer, NoMemory>
-        ensures done { IfOk result (λ answer. command_done self.old.store n command ≡ (self.new.store, answer)) }
-        ensures unchanged { IfOk result (λ answer. changes_store command ≡ false → self.new.store ≡ self.old.store) }
+        ensures done { IfOk result (λ answer. script_done self.old n command ≡ (self.new, answer)) }
+        ensures unchanged { IfOk result (λ answer. changes_store command ≡ false → self.new ≡ self.old) }
         ensures spent { OnOk result (self.new.spent ≡ self.old.spent) }
     {
         self.carry_out(n, command)
-    }
-
-    /// Carries out a line, and answers its command; an empty one does nothing and has no answer. As [`act`](Self::act).
-    pub fn step(&mut self, line: Line) -> Result<Option<Answer>, NoMemory>
-        ensures { IfOk result (λ answer. script_step self.old line ≡ (self.new, answer)) }
-    {
-        match line {
-            Line::Empty => Ok(None),
-            Line::Command { session, command } => Ok(Some(self.act(session, command)?)),
-        }
     }
 }

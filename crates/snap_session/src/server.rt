@@ -6,7 +6,7 @@ ghost use Rattle.snap_script.specs.declared.unknown.FieldRule.TheVariants.{Known
 ghost use Rattle.snap_lines.specs.Transcripts.{Tells, next_line};
 ghost use Rattle.snap_session.specs.Service.{HasStoppedServing, idle, responded, served, service};
 
-use crate::script::Script;
+use crate::stepper::Stepper;
 use snap_ledger::{NewTable, StoreName};
 use snap_lines::{Stop, TakeLine, read_lines};
 use snap_script::{Fault, Line, ReadError, Request, Response, Scratch, read_request};
@@ -21,7 +21,7 @@ const READS: u64 = u64::MAX;
 /// Answers the lines of a script, each of them. Contracts see the script, and how many lines were answered.
 #[derive(Drop)]
 pub struct Server<N: StoreName> {
-    script: Script<N>,
+    stepper: Stepper<N>,
     lines: u64,
     scratch: Scratch,
 }
@@ -31,16 +31,16 @@ impl<N: StoreName> Model for Server<N> {
 
     ghost Value = { ServerValue };
 
-    ghost view = { λ s. record { script = s.script; lines = s.lines } };
+    ghost view = { λ s. record { stepped = s.stepper; lines = s.lines } };
 }
 
 // Carries out what was read of the line of this number.
 fn respond<N: StoreName>(
-    script: &mut Script<N>,
+    stepper: &mut Stepper<N>,
     number: u64,
     line: Result<Line, Fault>,
 ) -> Result<Response, NoMemory>
-    ensures { IfOk result (λ response. responded script.old number line ≡ (script.new, response)) }
+    ensures { IfOk result (λ response. responded stepper.old number line ≡ (stepper.new, response)) }
 {
     let line = match line {
         Ok(line) => line,
@@ -49,7 +49,7 @@ fn respond<N: StoreName>(
             line: number,
         }),
     };
-    match script.step(line)? {
+    match stepper.step(line)? {
         Some(answer) => Ok(Response::Answer(answer)),
         None => Ok(Response::Empty),
     }
@@ -62,7 +62,7 @@ impl<N: StoreName> Server<N> {
         ensures { result ≡ idle }
     {
         Server {
-            script: Script::new(alloc, table),
+            stepper: Stepper::new(alloc, table),
             lines: 0,
             scratch: Scratch::new(alloc),
         }
@@ -71,26 +71,26 @@ impl<N: StoreName> Server<N> {
     // Reads a line with its id.
     pub(crate) fn read(&mut self, alloc: Global, line: &[u8]) -> Result<Request, NoMemory>
         ensures id { IfOk result (λ request. request.id ≡ id_of line.now) }
-        ensures line { IfOk result (λ request. request.line ≡ line_of KnownAndId (is_some self.old.script.store) line.now) }
+        ensures line { IfOk result (λ request. request.line ≡ line_of KnownAndId (is_some self.old.stepped.script.store) line.now) }
         ensures same { self.new ≡ self.old }
     {
-        let opened = self.script.is_open();
+        let opened = self.stepper.is_open();
         read_request(alloc, line, opened, &mut self.scratch)
     }
 
     // Carries out what was read of the next line.
     pub(crate) fn respond(&mut self, line: Result<Line, Fault>) -> Result<Response, NoMemory>
-        ensures script { IfOk result (λ response. responded self.old.script (next_line self.old.lines) line ≡ (self.new.script, response)) }
+        ensures stepped { IfOk result (λ response. responded self.old.stepped (next_line self.old.lines) line ≡ (self.new.stepped, response)) }
         ensures lines { OnOk result (self.new.lines ≡ next_line self.old.lines) }
     {
         self.lines = self.lines.saturating_add(1);
-        respond(&mut self.script, self.lines, line)
+        respond(&mut self.stepper, self.lines, line)
     }
 
     // Counts the next line, which isn't kept.
     pub(crate) fn pass_over(&mut self) -> Response
         ensures response { result ≡ NotKept }
-        ensures script { self.new.script ≡ self.old.script }
+        ensures stepped { self.new.stepped ≡ self.old.stepped }
         ensures lines { self.new.lines ≡ next_line self.old.lines }
     {
         self.lines = self.lines.saturating_add(1);
@@ -99,14 +99,14 @@ impl<N: StoreName> Server<N> {
 
     // Whether a store stands.
     pub(crate) fn is_open(&self) -> bool
-        ensures { result ≡ is_some self.now.script.store }
+        ensures { result ≡ is_some self.now.stepped.script.store }
     {
-        self.script.is_open()
+        self.stepper.is_open()
     }
 
     // The next line is the first.
     pub(crate) fn count_anew(&mut self)
-        ensures script { self.new.script ≡ self.old.script }
+        ensures stepped { self.new.stepped ≡ self.old.stepped }
         ensures lines { self.new.lines ≡ 0 }
     {
         self.lines = 0;

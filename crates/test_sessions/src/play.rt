@@ -88,7 +88,8 @@ impl<'a, N: RoundName, R: Wait> Round<'a, N, R> {
             | Command::Tree { .. }
             | Command::Diff { .. }
             | Command::Journal { .. }
-            | Command::Report => return Ok(None),
+            | Command::Report
+            | Command::Save { .. } => return Ok(None),
             command => match self.do_command(n, command) {
                 Ok(answer) => return Ok(Some(answer)),
                 Err(refused) => refused,

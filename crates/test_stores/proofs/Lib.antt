@@ -6,4 +6,4 @@ mod FirstRound
 mod JobLabels
 mod Witnesses
 mod Told
-mod Pieces
+mod SavedLines

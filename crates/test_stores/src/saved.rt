@@ -10,14 +10,16 @@ ghost use Rattle.snap_world.specs.declared.fault.RestoreFault.TheVariants.{OutOf
 
 use crate::setup::{config, equal, new_table, path, text, usage};
 use snap_call::{Call, ConfigField, Refusal, Reply};
-use snap_checkpoint::{StoreFault, StoreGathering, StorePieces};
+use snap_checkpoint::{LineGathering, StoreFault, StoreLines};
 use snap_json::{Scratch, Value, Writer};
 use snap_ledger::{NewTable, StoreName};
 use snap_merge::FsError;
-use snap_pieces::{Line, StorePiece, read_line, write_line};
+use snap_pieces::{Line, read_line, write_line};
 use snap_record::{Labels, Sequence, Text};
+use snap_script::{Answer as ScriptAnswer, Command, Line as ScriptLine, RestoreRefusal};
+use snap_session::Stepper;
 use snap_upper::Op;
-use snap_world::{Answer, RestoreFault, SavedWorld, Step, World};
+use snap_world::{Answer, NoMemory, RestoreFault, SavedWorld, Step, World};
 use std::alloc::Global;
 use std::marker::Brand;
 use std::process::Abort;
@@ -37,20 +39,42 @@ fn again<N: StoreName, M: StoreName>(
     World::<M>::restore(alloc, table, saved)
 }
 
-// The pieces of what is saved of a world, put one after another, make it again, or memory is refused.
-fn through_pieces(alloc: Global, saved: SavedWorld) -> Result<SavedWorld, StoreFault>
+// The lines of what is saved of a world, put one after another, make it again, or memory is refused.
+fn by_lines(alloc: Global, saved: SavedWorld) -> Result<SavedWorld, StoreFault>
     requires { AllByRecursion IsWholeSnapshot saved.snapshots }
     ensures same { IfOk result (λ back. back ≡ saved) }
     ensures memory { IfErr result (λ fault. fault ≡ store_faults.OutOfMemory no_memory) }
 {
-    let (head, mut pieces) = StorePieces::begin(alloc, saved)?;
-    let mut gathering = StoreGathering::begin(alloc, head);
-    while let Some(piece) = pieces.next_piece()? {
-        if let Err(fault) = gathering.put(piece) {
-            return Err(fault);
+    let mut lines = StoreLines::begin(alloc, saved)?;
+    let mut gathering = LineGathering::new(alloc);
+    while let Some(line) = lines.next_line()? {
+        match gathering.put(line) {
+            Ok(None) => {}
+            Ok(Some(back)) => return Ok(back),
+            Err(fault) => return Err(fault),
         }
     }
-    gathering.finish()
+    unreachable!()
+}
+
+// An end without a head has no place, and opens no store. A witness: it is proved, and not run.
+fn an_end_alone<N: StoreName>(alloc: Global, table: NewTable) -> Result<(), NoMemory>
+    requires { table ≡ N.table }
+{
+    let mut stepper: Stepper<N> = Stepper::new(alloc, table);
+    let end = ScriptLine::Command {
+        session: 0,
+        command: Command::Restore(Ok(Line::End { lines: 2 })),
+    };
+    let answer = stepper.step(end)?;
+    let is_refused = matches!(
+        &answer,
+        Some(ScriptAnswer::BadRestore(RestoreRefusal::Misplaced))
+    );
+    prove!(is_refused);
+    let is_open = stepper.is_open();
+    prove!(!is_open);
+    Ok(())
 }
 
 fn written<R: Abort>(rt: &R, alloc: Global, line: &Line) -> String {
@@ -72,25 +96,19 @@ fn through_text<R: Abort>(rt: &R, alloc: Global, line: &Line) -> Line {
     read(rt, alloc, text.as_str())
 }
 
-fn put<R: Abort>(rt: &R, alloc: Global, to: &mut StoreGathering, piece: StorePiece) {
-    match through_text(rt, alloc, &Line::Piece(piece)) {
-        Line::Piece(piece) => to.put(piece).expect(rt, "a piece in its place"),
-        Line::Head(_) | Line::End => equal(rt, "a piece", false, true),
-    }
-}
-
-// A saved world by the lines of its pieces, of which there are at most 64.
-fn through_lines<R: Abort>(rt: &R, alloc: Global, saved: SavedWorld) -> SavedWorld {
-    let (head, mut pieces) = StorePieces::begin(alloc, saved).expect(rt, "memory for pieces");
-    let mut gathering = StoreGathering::begin(alloc, head);
+// A saved world by the texts of its lines, of which there are at most 64.
+fn through_texts<R: Abort>(rt: &R, alloc: Global, saved: SavedWorld) -> SavedWorld {
+    let mut lines = StoreLines::begin(alloc, saved).expect(rt, "memory for lines");
+    let mut gathering = LineGathering::new(alloc);
+    let mut back = None;
     for _ in 0..64 {
-        if let Some(piece) = pieces.next_piece().expect(rt, "memory for a piece") {
-            put(rt, alloc, &mut gathering, piece);
+        if let Some(line) = lines.next_line().expect(rt, "memory for a line") {
+            let line = through_text(rt, alloc, &line);
+            back = gathering.put(line).expect(rt, "a line in its place");
         }
     }
-    let left = pieces.next_piece().expect(rt, "memory for a piece");
-    equal(rt, "a piece is left", left.is_some(), false);
-    gathering.finish().expect(rt, "a saved world")
+    equal(rt, "all lines came", lines.is_empty(), true);
+    back.expect(rt, "a saved world")
 }
 
 fn prepare<R: Abort>(rt: &R, alloc: Global, key: &str, parent: &str) -> Step {
@@ -270,9 +288,9 @@ fn lines_are_written_as_they_are_read(rt: HostRuntime) {
     for text in [
         r#"{"ancestors":64,"do":"restore","entries":8,"first_id":1,"journal":9,"layer_inodes":7,"next_id":3,"piece":"store","root":"/r","slots":2}"#,
         r#"{"blocks":0,"do":"restore","inodes":0,"name":"","piece":"namespace"}"#,
-        r#"{"created":1,"do":"restore","id":1,"key":"v","kind":"View","ns":"a","parent":"","piece":"snapshot","updated":2}"#,
-        r#"{"blocks":2,"created":1,"do":"restore","id":1,"inodes":1,"key":"k","kind":"Active","mode":493,"most":9,"next":1,"ns":"a","opaque":true,"parent":"b","piece":"snapshot","sealed":true,"slot":0,"updated":1}"#,
-        r#"{"created":1,"do":"restore","id":4294967295,"key":"b","kind":"Committed","mode":493,"most":9,"next":1,"ns":"a","opaque":false,"parent":"","piece":"snapshot","updated":3}"#,
+        r#"{"created":1,"do":"restore","key":"v","kind":"View","ns":"a","parent":"","piece":"snapshot","snapshot_id":1,"updated":2}"#,
+        r#"{"blocks":2,"created":1,"do":"restore","inodes":1,"key":"k","kind":"Active","mode":493,"most":9,"next":1,"ns":"a","opaque":true,"parent":"b","piece":"snapshot","sealed":true,"slot":0,"snapshot_id":1,"updated":1}"#,
+        r#"{"created":1,"do":"restore","key":"b","kind":"Committed","mode":493,"most":9,"next":1,"ns":"a","opaque":false,"parent":"","piece":"snapshot","snapshot_id":4294967295,"updated":3}"#,
         r#"{"do":"restore","key":"k","piece":"label","value":"\"\u0001"}"#,
         r#"{"do":"restore","mode":493,"opaque":true,"path":"/é","piece":"dir"}"#,
         r#"{"do":"restore","path":"/x","piece":"whiteout"}"#,
@@ -285,7 +303,7 @@ fn lines_are_written_as_they_are_read(rt: HostRuntime) {
         r#"{"do":"restore","name":"l","ns":"a","piece":"lease","until":18446744073709551615}"#,
         r#"{"do":"restore","name":"l","ns":"a","piece":"lease"}"#,
         r#"{"do":"restore","name":"b","piece":"leased"}"#,
-        r#"{"do":"restore","piece":"end"}"#,
+        r#"{"do":"restore","lines":18446744073709551615,"piece":"end"}"#,
     ] {
         let line = read(&rt, alloc, text);
         let again = written(&rt, alloc, &line);
@@ -297,8 +315,8 @@ fn lines_are_written_as_they_are_read(rt: HostRuntime) {
 fn a_world_goes_on(rt: HostRuntime) {
     let alloc = rt.alloc();
     let saved = new_saved(&rt, alloc);
-    let saved = through_pieces(alloc, saved).expect(&rt, "the same");
-    let saved = through_lines(&rt, alloc, saved);
+    let saved = by_lines(alloc, saved).expect(&rt, "the same");
+    let saved = through_texts(&rt, alloc, saved);
     resumed(&rt, alloc, saved);
 }
 

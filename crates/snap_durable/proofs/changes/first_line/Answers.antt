@@ -1,7 +1,6 @@
-use Rattle.std.proofs.Common.{◌≡◌, ◌∙◌, ◌+◌, ◌-◌, ◌<◌, ◌≤◌, ◌∷◌, [], List, ℕ, length, take, drop, sym, ap, subst, arith, true}
+use Rattle.std.proofs.Common.{◌≡◌, ◌∙◌, ◌+◌, ◌-◌, ◌≤◌, ◌∷◌, [], List, ℕ, length, take, drop, sym, ap, subst, arith, true}
 use Rattle.std.proofs.lemmas.List.{take_all, take_rest}
 use Rattle.std.proofs.lemmas.List.{drop-drop}
-use Rattle.std.specs.Prelude.{slice_index}
 use Rattle.snap_lines.specs.Lines.{lines_of, is_open}
 use Rattle.snap_durable.specs.Parts.{line_limit}
 use Rattle.snap_durable.proofs.LineLaws.{HasFirst, first_all, first_with}

@@ -1,4 +1,4 @@
-use Rattle.std.proofs.Common.{sym, arith, length, length-take}
+use Rattle.std.proofs.Common.{sym, arith, length-take}
 use Rattle.std.proofs.lemmas.List.{take_all}
 use Rattle.snap_durable.specs.Parts.{line_limit}
 use Rattle.snap_durable.proofs.changes.line_read.Goals as goal

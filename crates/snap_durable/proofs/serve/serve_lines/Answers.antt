@@ -1,4 +1,4 @@
-use Rattle.std.proofs.Common.{ℕ, [], ◌<◌, length, take, arith, refl, sym, subst}
+use Rattle.std.proofs.Common.{ℕ, [], ◌<◌, length, take, arith, sym, subst}
 use Rattle.std.specs.Io.KnownBytes.{Consumes, IsAtEnd}
 use Rattle.snap_log.specs.Batches.{Batched}
 use Rattle.snap_durable.specs.Parts.{line_limit}

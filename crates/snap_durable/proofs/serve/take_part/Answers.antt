@@ -1,4 +1,4 @@
-use Rattle.std.proofs.Common.{◌≡◌, ◌++◌, ◌∙◌, ap, subst, arith, rules, length, [], List, ℕ}
+use Rattle.std.proofs.Common.{◌≡◌, ◌++◌, ◌∙◌, ap, subst, arith, rules, length, List, ℕ}
 use Rattle.std.proofs.lemmas.List.{nil_from_length}
 use Rattle.snap_log.specs.Batches.{batched, emptied}
 use Rattle.snap_log.specs.Log.{text_in, Keeps}

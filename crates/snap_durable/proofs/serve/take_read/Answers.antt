@@ -1,4 +1,4 @@
-use Rattle.std.proofs.Common.{◌≡◌, ◌++◌, ◌+◌, ◌-◌, ◌<◌, ◌≤◌, ◌∙◌, List, ℕ, [], length, take, drop, refl, sym, ap, subst, arith, take-append-drop}
+use Rattle.std.proofs.Common.{◌≡◌, ◌++◌, ◌+◌, ◌-◌, ◌∙◌, List, ℕ, [], length, take, drop, refl, sym, ap, subst, arith, take-append-drop}
 use Rattle.std.proofs.lemmas.List.{take_rest}
 use lib.Seq.{take-add}
 use Rattle.snap_log.specs.Log.{text_in}

@@ -1,4 +1,4 @@
-use Rattle.std.proofs.Common.{◌≡◌, ◌-◌, ◌≤◌, length, take}
+use Rattle.std.proofs.Common.{◌-◌, ◌≤◌, length, take}
 use Rattle.snap_durable.specs.Served.{IsBegun, Went}
 use Rattle.snap_durable.proofs.serve.take_read.Given as goal
 
