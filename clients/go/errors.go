@@ -28,6 +28,9 @@ var ErrOption = errors.New("the call doesn't have this option")
 // ErrReserved is the error of a Request with a field `do` or `id`, which the client gives. Nothing is sent.
 var ErrReserved = errors.New("the client gives this field")
 
+// ErrNotSaved is the error of Restore for a line that is no command `restore`. It isn't sent.
+var ErrNotSaved = errors.New("not a line of a saved store")
+
 // ErrNotOfSocket is the error of a Config with a socket and another field.
 var ErrNotOfSocket = errors.New("a store behind a socket doesn't have this field")
 
@@ -87,6 +90,8 @@ const (
 	// ErrNotKept: the log can't keep the call, as on a full disk. Nothing was changed: make the call again once there is
 	// room. Calls that are read together are kept together or not at all. No call is made again by itself.
 	ErrNotKept Reason = "NotKept"
+	// ErrBadRestore: a line of a saved store can't be taken, or the store that its lines make. The Refusal tells why.
+	ErrBadRestore Reason = "BadRestore"
 )
 
 // Refusals of a daemon, which hands on the lines of others. The store has not seen the line.
@@ -130,7 +135,8 @@ const (
 // A Refusal is the answer to a call that the store doesn't grant.
 type Refusal struct {
 	Reason Reason `json:"error"`
-	// From is "book", "world", "file" for an error of a file, or "log", and for a refusal of a daemon "door" or "cluster".
+	// From is "book", "world", "file" for an error of a file, "log" or "restore", and for a refusal of a daemon "door" or
+	// "cluster".
 	From string `json:"from"`
 	// Free is what the namespace has free. ErrOverLimit alone tells it.
 	Free Usage `json:"free"`
@@ -141,6 +147,9 @@ type Refusal struct {
 	Field string `json:"field"`
 	// Words say why a daemon's cluster has no room, and who has some, or are empty.
 	Words string `json:"words"`
+	// Why says what is wrong with a line of a saved store, or with the store that its lines make, in the words of
+	// docs/SCRIPT.md. ErrBadRestore alone tells it.
+	Why string `json:"why"`
 }
 
 // The refusal that an answer tells.
@@ -157,8 +166,10 @@ func refusalIn(text []byte) (*Refusal, error) {
 
 func (r *Refusal) Error() string {
 	words := fmt.Sprintf("%s (from %s)", r.Reason, r.From)
-	if r.Words != "" {
-		words += ": " + r.Words
+	for _, more := range []string{r.Words, r.Why} {
+		if more != "" {
+			words += ": " + more
+		}
 	}
 	return words
 }

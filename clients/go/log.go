@@ -1,10 +1,14 @@
 package pibroulez
 
 import (
+	"bufio"
+	"bytes"
 	"context"
 	"errors"
 	"fmt"
+	"io"
 	"io/fs"
+	"math"
 	"os"
 	"os/exec"
 	"strings"
@@ -122,11 +126,24 @@ func isNoLog(cause error) bool {
 	return errors.Is(cause, syscall.EWOULDBLOCK) || errors.As(cause, new(*BadLog))
 }
 
-// Whether the file has text.
-func (l *log) hasText() bool {
-	var first [1]byte
-	_, err := l.file.ReadAt(first[:], 0)
-	return err == nil && first[0] == '{'
+// The first line, or nothing where there is none.
+func (l *log) firstLine() []byte {
+	if l == nil {
+		return nil
+	}
+	line, _ := bufio.NewReader(io.NewSectionReader(l.file, 0, math.MaxInt64)).ReadBytes('\n')
+	if !bytes.HasPrefix(line, []byte("{")) {
+		return nil
+	}
+	return line
+}
+
+// The error of a log that has lines, and no store.
+func (l *log) checkNoLines() error {
+	if len(l.firstLine()) > 0 {
+		return &BadLog{l.path, 1, "it opens no store"}
+	}
+	return nil
 }
 
 // Whether the process's log has a store, by its own answer: from before this to its end it has the log alone.
@@ -134,6 +151,11 @@ func (s *Store) hasStore(ctx context.Context) (bool, error) {
 	if s.log == nil {
 		return false, nil
 	}
+	return s.isOpen(ctx)
+}
+
+// Whether the process has a store, by its own answer.
+func (s *Store) isOpen(ctx context.Context) (bool, error) {
 	question, err := callOf("report", nil, nil)
 	if err != nil {
 		return false, err
@@ -146,8 +168,6 @@ func (s *Store) hasStore(ctx context.Context) (bool, error) {
 		return true, nil
 	case !isFault(text):
 		return false, errors.New("an answer to no report")
-	case s.log.hasText():
-		return false, &BadLog{s.log.path, 1, "it opens no store"}
 	}
 	return false, nil
 }

@@ -18,7 +18,7 @@ const lineMore = 32 + 168
 // Commands that change nothing and make no entry in the journal. They need no room.
 var isLookup = map[string]bool{
 	"look": true, "list": true, "read": true, "resolve": true, "du": true, "quota": true, "leases": true, "tree": true,
-	"diff": true, "journal": true, "report": true,
+	"diff": true, "journal": true, "report": true, "save": true,
 }
 
 // Commands that make an entry unless they are quiet.

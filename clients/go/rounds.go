@@ -75,7 +75,7 @@ func (s *Store) answerTo(ctx context.Context, c call) ([]byte, error) {
 		if err == nil {
 			err = refused(text)
 		}
-		if rolled || !errors.Is(err, ErrJournalFull) || !s.rounds.whenFull.Load() || beginsRound[c.do] {
+		if rolled || !errors.Is(err, ErrJournalFull) || !s.rounds.whenFull.Load() || isOfNextRound[c.do] {
 			return text, err
 		}
 		var failed error
@@ -88,5 +88,5 @@ func (s *Store) answerTo(ctx context.Context, c call) ([]byte, error) {
 	}
 }
 
-// Commands that are no call of a round that is full.
-var beginsRound = map[string]bool{"open": true, "reopen": true, "roll": true}
+// Commands that don't find a round full: for these it is the next one that lacks an entry.
+var isOfNextRound = map[string]bool{"open": true, "reopen": true, "roll": true, "save": true}

@@ -105,13 +105,19 @@ type fields map[string]any
 func New(ctx context.Context, config Config) (*Store, error) {
 	return config.begin(ctx, func(store *Store, has bool) error {
 		if has {
-			return &fs.PathError{Op: "create log", Path: config.Log, Err: fs.ErrExist}
+			return isThere(config.Log)
 		}
 		return store.open(ctx, config)
 	})
 }
 
+// The error of a log that has a store already.
+func isThere(path string) error { return &fs.PathError{Op: "create log", Path: path, Err: fs.ErrExist} }
+
 func (s *Store) open(ctx context.Context, config Config) error {
+	if err := s.log.checkNoLines(); err != nil {
+		return err
+	}
 	return s.call(ctx, "open", config.fields(), nil, nil)
 }
 
@@ -143,9 +149,12 @@ func (c Config) fields() fields {
 // syscall.EWOULDBLOCK where another process has the log: also the one of a client that was killed, until it has seen the
 // end of its input. With an error a file that has text is as it was. The cost is that of all calls in the log.
 func Open(ctx context.Context, program, path string) (*Store, error) {
-	return begin(ctx, program, path, 0, func(_ *Store, has bool) error {
+	return begin(ctx, program, path, 0, func(store *Store, has bool) error {
 		if has {
 			return nil
+		}
+		if err := store.log.checkNoLines(); err != nil {
+			return err
 		}
 		return &fs.PathError{Op: "open log without a line", Path: path, Err: fs.ErrNotExist}
 	})

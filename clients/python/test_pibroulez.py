@@ -596,6 +596,7 @@ class Errors(unittest.TestCase):
             pibroulez.BadArgument: ("BadArgument", "book", "slots"),
             pibroulez.OverLimit: ("OverLimit", "book", Usage(3, 1), "", "need"),
             pibroulez.NotFound: ("NotFound", "book", "parent"),
+            pibroulez.BadRestore: ("BadRestore", "restore", "snapshot 3: NotFound", None, 7),
             OperationRefused: (2, Refused("Exists", "file"), Batched(1, Usage(2, 2), Usage(3, 3))),
             Fault: ("too long", 2),
             pibroulez.ReservedField: ("id",),

@@ -39,6 +39,7 @@ func init() {
 			"takes leases that have ended at a moment, and snapshots that nothing needs; tells which",
 		}, onStore(sweep)},
 		{"check", "", nil, false, []string{"compares what the store tells: sums, parents, and numbers of snapshots"}, onStore(check)},
+		{"save", "", nil, false, []string{"the lines of the whole store, of which snap_replay makes it again"}, onStore(save)},
 		{"audit", "TENANT KEY", []string{"root"}, false, []string{
 			"what a snapshot takes by the ledger, by its directory and by the file system, and the paths that",
 			"make the difference; as root of the daemon's machine",
@@ -49,6 +50,7 @@ func init() {
 		{"log-diff", "FILE OTHER", []string{"program"}, false, []string{
 			"in which limits, snapshots and leases the stores of two logs differ; without the daemon",
 		}, onLogs(logDiff)},
+		{"log-save", "FILE", []string{"program"}, false, []string{"the lines of the store that a log tells; without the daemon"}, onLogs(logSave)},
 		{"completion", "SHELL", nil, false, []string{"the words by which bash, zsh or fish complete this command"}, completion},
 
 		{"cluster quota", "[TENANT]", nil, true, []string{"limit, granted, charged and idle of each node, and how long ago it told"}, onCluster(clusterQuota)},

@@ -1,6 +1,8 @@
 package main
 
 import (
+	"bytes"
+	"encoding/json"
 	"errors"
 	"fmt"
 	"math"
@@ -144,6 +146,45 @@ func TestLogOfAnother(t *testing.T) {
 	other.expectEnd(t, busyLog, "calls.jsonl: resource temporarily unavailable")
 	granted(t, it.Process.Kill())
 	p.start(t).end(t)
+}
+
+// A daemon goes on in a log in which its store was restored: ids stay, and so directories are those of their snapshots.
+func TestRestoredLog(t *testing.T) {
+	p := newPlace(t)
+	called := namespaces.WithNamespace(ctx, "test")
+	p.configure(t, p.lines()+p.containerd()+roles("operator")+tenant("a", 9, 9))
+	it := p.start(t)
+	s := p.snapshotter(t)
+	_, err := s.Prepare(called, "k", "")
+	granted(t, err)
+	granted(t, s.Commit(called, "base", "k"))
+	mounts, err := s.Prepare(called, "k", "base")
+	granted(t, err)
+	store := p.connect(t)
+	granted(t, store.Limit(ctx, "a", pibroulez.Usage{Blocks: 5, Inodes: 5}))
+	var saved bytes.Buffer
+	granted(t, store.SaveAll(ctx, func(line json.RawMessage) error {
+		_, err := fmt.Fprintf(&saved, "%s\n", line)
+		return err
+	}))
+	it.end(t)
+	log := p.path("root/calls.jsonl")
+	for _, name := range []string{log, log + "-wal"} {
+		granted(t, os.Remove(name))
+	}
+	restored, err := pibroulez.Restore(ctx, program(), log, &saved)
+	granted(t, err)
+	granted(t, restored.Close())
+	it = p.start(t)
+	s = p.snapshotter(t)
+	found, err := s.Mounts(called, "k")
+	granted(t, err)
+	equal(t, found, mounts)
+	granted(t, s.Commit(called, "top", "k"))
+	quota, err := p.connect(t).Quota(ctx, "a")
+	granted(t, err)
+	equal(t, quota.Limit, pibroulez.Usage{Blocks: 5, Inodes: 5})
+	it.end(t)
 }
 
 // A proxy's root of an earlier version is served where there is the door for containerd, and its log stays under another

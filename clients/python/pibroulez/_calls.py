@@ -1,7 +1,15 @@
 """What the commands of a store are made by."""
 from __future__ import annotations
 
+import json
 from typing import Any, Mapping
+
+_ENCODER = json.JSONEncoder(ensure_ascii=False, separators=(",", ":"))
+
+
+def text_of(command: Mapping[str, object]) -> str:
+    """The line of a command, without its line feed."""
+    return _ENCODER.encode(command)
 
 
 class Calls:

@@ -49,7 +49,7 @@ def _unasked(response: bytes, otherwise: str) -> Died:
     return Died(-signal.SIGKILL, otherwise)
 
 
-class _Call:
+class Call:
     """A line on its way, and the place where its caller finds the answer."""
 
     def __init__(self, line: bytes) -> None:
@@ -100,9 +100,9 @@ class Connection:
         self._owner = os.getpid()
         self._responses = self._batches()
         # The calls that the writer has yet to send, and None where it is to end.
-        self._calls: queue.SimpleQueue[_Call | None] = queue.SimpleQueue()
+        self._calls: queue.SimpleQueue[Call | None] = queue.SimpleQueue()
         # The calls whose answers have yet to be handed out.
-        self._sent: Deque[_Call] = collections.deque()
+        self._sent: Deque[Call] = collections.deque()
         # Why no call is answered any more.
         self._cause: Error | None = None
         self._finished = threading.Event()
@@ -249,13 +249,17 @@ class Connection:
 
     def exchange(self, line: bytes) -> bytes:
         """The answer to a line, which has its line feed. Raises why there is none, and Forked in a forked process."""
+        return self.begin(line).wait()
+
+    def begin(self, line: bytes) -> Call:
+        """Sends a line, which has its line feed, without waiting for the answer. Raises Forked."""
         self.check_owner()
-        call = _Call(line)
+        call = Call(line)
         self._calls.put(call)
         if self._cause:
             # The call may have come after all were ended.
             self._end_calls(self._cause)
-        return call.wait()
+        return call
 
     def close(self, seconds: float) -> None:
         """Ends the process once it has answered all, and kills it where that takes longer. Raises Forked."""

@@ -3,7 +3,7 @@ from __future__ import annotations
 
 from typing import Any, Callable, Iterator, Mapping, Sequence, Type, TypeVar
 
-from ._calls import Calls
+from ._calls import Calls, text_of
 from .answers import (
     Change,
     Committed,
@@ -17,6 +17,7 @@ from .answers import (
     Prepared,
     Quota,
     Report,
+    SavedPage,
     Swept,
     Usage,
     Viewed,
@@ -324,3 +325,26 @@ class Snapshots(Calls):
         answer = self._call("report")
         totals = {namespace: Usage(*total) for namespace, total in answer["totals"].items()}
         return Report(answer["entries"], answer["open"], answer["records"], totals)
+
+    # The store as lines
+
+    def save(self, after: int | None = None, max: int | None = None) -> SavedPage:
+        """A page of the lines of the saved store, at most `max` of them: the first, by which the store is saved as it is, or
+        the one after the number that the page before names as `next`. All pages are of the store as it was at the first,
+        whatever calls come between. It makes no entry.
+
+        `BadArgument` where no page comes after this number. A store has the lines of the last first page alone, so this is
+        also what another caller's leaves of the pages before it. The first is `JournalFull` or `NumbersSpent` where `roll`
+        to as many entries would be: the lines couldn't be restored.
+        """
+        answer = self._call("save", after=after, max=max)
+        return SavedPage(tuple(text_of(line) for line in answer["lines"]), answer.get("next"))
+
+    def iter_save(self, *, page: int | None = None) -> Iterator[str]:
+        """The lines of the store as it is when the first is asked for, each without its line feed: `Store.restore` takes
+        them. `page` is how many are asked for at a time. Where it raises, the lines so far are no saved store."""
+        saved = self.save(max=page)
+        yield from saved.lines
+        while saved.next is not None:
+            saved = self.save(saved.next, page)
+            yield from saved.lines

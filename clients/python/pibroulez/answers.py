@@ -231,6 +231,15 @@ class Entry:
 
 
 @dataclass(frozen=True)
+class SavedPage:
+    """A page of the lines of a saved store, each without its line feed, and the number after which the next page comes, or
+    None where this is the last one."""
+
+    lines: tuple[str, ...]
+    next: int | None = None
+
+
+@dataclass(frozen=True)
 class Report:
     """The entries of the journal's round, the active snapshots, all snapshots, and what each namespace is charged."""
 

@@ -12,8 +12,8 @@ class Error(Exception):
 
 
 class Refused(Error):
-    """The store has refused a call. `source` is `book`, `world`, `file` for an error of a file, or `log`, and `door` or
-    `cluster` for a refusal of a daemon.
+    """The store has refused a call. `source` is `book`, `world`, `file` for an error of a file, `log` or `restore`, and
+    `door` or `cluster` for a refusal of a daemon.
 
     `of` is the field of the call that it is about, by its name in a line (docs/SCRIPT.md), as `parent` where a new
     snapshot's parent isn't found, and None where no field alone is the cause.
@@ -204,6 +204,23 @@ class NotKept(Refused):
     """
 
 
+class BadRestore(Refused):
+    """A line of a saved store can't be taken, or the store that its lines make. `why` says what is wrong, in the words of
+    docs/SCRIPT.md.
+
+    `line` is the line's number, from 1, of those that `Store.restore` was given, and else None.
+    """
+
+    def __init__(self, name: str, source: str, why: str, of: str | None = None, line: int | None = None) -> None:
+        super().__init__(name, source, of)
+        self.args = (name, source, why, of, line)
+        self.why = why
+        self.line = line
+
+    def __str__(self) -> str:
+        return (f"line {self.line}: " if self.line else "") + f"{super().__str__()}: {self.why}"
+
+
 class OperationRefused(Error):
     """An operation of a batch was refused. Those before it are done, as `batch` tells, or none, where it is whole; and no
     later one is.
@@ -315,6 +332,8 @@ def refusal_in(answer: Mapping[str, Any]) -> Refused:
     kind = _REFUSALS.get(name, Refused)
     if kind is BadArgument:
         return BadArgument(name, source, answer.get("field"), of)
+    if kind is BadRestore:
+        return BadRestore(name, source, answer["why"], of)
     return kind(name, source, of)
 
 

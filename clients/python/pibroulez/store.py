@@ -1,6 +1,7 @@
 """A store that a process keeps."""
 from __future__ import annotations
 
+import collections
 import contextlib
 import errno
 import json
@@ -9,14 +10,15 @@ import threading
 import weakref
 from pathlib import Path
 from types import TracebackType
-from typing import Any, Mapping, Type, Union
+from typing import Any, Deque, Iterable, Iterator, Mapping, Type, Union
 
-from ._connection import Connection
+from ._calls import text_of
+from ._connection import Call, Connection, is_fault
 from ._files import Files
 from ._peers import END_SECONDS, Daemon, Process, StrPath
 from ._snapshots import Snapshots
 from .answers import Pair
-from .errors import BadLog, Forked, JournalFull, ReservedField, error_in
+from .errors import BadLog, BadRestore, Fault, Forked, JournalFull, ReservedField, error_in
 
 _CRATE = Path(os.path.normpath(Path(__file__).resolve() / "../../../../crates/snap_replay"))
 #: The program of a store that names none: the one that the repository builds, or where the package was installed from
@@ -26,11 +28,15 @@ PROGRAM: Union[str, Path] = _CRATE / "out/snap_replay" if _CRATE.is_dir() else "
 # Commands that begin a round.
 _ROUNDS = ("roll", "reopen")
 
-_ENCODER = json.JSONEncoder(ensure_ascii=False, separators=(",", ":"))
+# What never changes of a store, as far as an open may leave it out.
+_DEFAULTS = {"slots": 64, "layer_inodes": 65_536, "ancestors": 64}
+
+# How many lines of a saved store are sent before the first is answered.
+_MOST_RESTORING = 512
 
 
 def _line(command: Mapping[str, object]) -> bytes:
-    return _ENCODER.encode(command).encode() + b"\n"
+    return text_of(command).encode() + b"\n"
 
 
 def _opening(root: str, namespaces: Mapping[str, Pair], **bounds: int | None) -> bytes:
@@ -47,28 +53,96 @@ def _find(log: StrPath, *, create: bool) -> None:
     os.close(os.open(log, flags | (os.O_CREAT if create else 0), 0o600))
 
 
-def _has_store(connection: Connection, log: StrPath) -> bool:
-    """Whether the log of a process has a store. Raises BadLog where it has lines and no store."""
+def _has_store(connection: Connection, log: StrPath, *, may_restore: bool = False) -> bool:
+    """Whether the log of a process has a store. Raises BadLog where it has lines and no store, unless they are of a saved one
+    and may be."""
     if connection.has_store():
         return True
     with open(log, "rb") as file:
-        if file.read(1) == b"{":
-            raise BadLog(os.fspath(log), 1, "it opens no store")
-    return False
+        is_empty = file.read(1) != b"{"
+    if is_empty or may_restore and next(_commands_in(log), {}).get("do") == "restore":
+        return False
+    raise BadLog(os.fspath(log), 1, "it opens no store")
+
+
+def _commands_in(log: StrPath) -> Iterator[Mapping[str, Any]]:
+    """The commands of a log, and its marks, as questions, among them."""
+    with open(log, "rb") as file, contextlib.suppress(ValueError, RecursionError):
+        for text in file:
+            command = json.loads(text)
+            if not isinstance(command, dict):
+                return
+            yield command
 
 
 def _opening_in(log: StrPath) -> Mapping[str, Any]:
-    """The command that opened a log's store. It stands in the first line, which never changes."""
-    with open(log, "rb") as file, contextlib.suppress(ValueError, RecursionError):
-        command = json.loads(file.readline())
-        if isinstance(command, dict):
+    """The command that opened a log's store, in its first line, or the line with which the saved store begins that was
+    restored in it."""
+    head: Mapping[str, Any] = {}
+    for command in _commands_in(log):
+        do = command.get("do")
+        if do == "open" and not head:
             return command
-    raise BadLog(os.fspath(log), 1, "no open")
+        if do == "restore" and command.get("piece") == "store":
+            # A store that wasn't restored to its end is begun anew.
+            head = command
+        elif do not in ("restore", "report"):
+            break
+    if not head:
+        raise BadLog(os.fspath(log), 1, "no open")
+    return head
 
 
 def _in_order(value: object) -> object:
     """A field of an opening, in which the namespaces have any order."""
     return sorted(value, key=str) if isinstance(value, list) else value
+
+
+def _saved_lines(lines: Iterable[str]) -> Iterator[tuple[int, Mapping[str, Any]]]:
+    """The lines of a saved store with their numbers, but for empty ones. Raises ValueError for what is none."""
+    for number, text in enumerate(lines, 1):
+        if not text.strip():
+            continue
+        try:
+            command = json.loads(text)
+        except (ValueError, RecursionError) as error:
+            raise ValueError(f"line {number}: not a line of a saved store: {error}") from error
+        if not isinstance(command, dict) or command.get("do") != "restore":
+            raise ValueError(f"line {number}: not a line of a saved store")
+        if "id" in command:
+            raise ReservedField("id")
+        yield number, command
+
+
+def _restore(connection: Connection, lines: Iterable[str]) -> int:
+    """Sends the lines of a saved store, and waits until it is there. The most entries of its round."""
+    waiting: Deque[tuple[int, Call]] = collections.deque()
+    journal = 0
+
+    def take(most: int) -> None:
+        """Waits until only so many lines aren't taken."""
+        while len(waiting) > most:
+            number, call = waiting.popleft()
+            error = error_in(json.loads(call.wait()))
+            if error:
+                waiting.clear()
+                if isinstance(error, BadRestore):
+                    raise BadRestore(error.name, error.source, error.why, error.of, number)
+                raise Fault(error.fault, number) if isinstance(error, Fault) else error
+
+    try:
+        for number, command in _saved_lines(lines):
+            journal = command.get("journal", journal)
+            take(_MOST_RESTORING - 1)
+            waiting.append((number, connection.begin(_line(command))))
+    except Exception:
+        # A line that isn't taken comes before one that can't be sent.
+        take(0)
+        raise
+    take(0)
+    if is_fault(connection.exchange(b'{"do":"report"}\n')):
+        raise EOFError("the last line of the saved store is missing")
+    return journal
 
 
 class Store(Snapshots, Files):
@@ -157,6 +231,37 @@ class Store(Snapshots, Files):
         return cls._with(connection, opening.get("journal"), roll_when_full)
 
     @classmethod
+    def restore(
+        cls,
+        lines: Iterable[str],
+        *,
+        log: StrPath | None = None,
+        program: StrPath = PROGRAM,
+        roll_when_full: bool = False,
+    ) -> Store:
+        """The store that saved lines make, as `iter_save` gives them and a file of them has them; empty ones don't count.
+        Where a log is named the store goes on in it: it may have no store yet, but lines of one that wasn't restored.
+
+        Raises BadRestore, with its `line`, where a line isn't taken or the store is refused; ValueError for what is no
+        line of a saved store; EOFError where the last one is missing; what the iterable raises; and what `Store` raises.
+        A log may have the lines so far then: `from_log` raises BadLog, and `restore` begins anew. Only where the last
+        line was refused no store can be made in it any more, so it is to be removed. Where something stands behind the
+        last line, this raises Fault or ValueError of its line, and a log has the store.
+        """
+        if log is not None:
+            _find(log, create=True)
+        connection = Connection(Process(program, log))
+        with connection.beginning():
+            if log is not None and _has_store(connection, log, may_restore=True):
+                raise FileExistsError(errno.EEXIST, "the log of a store, to be restored", os.fspath(log))
+        try:
+            journal = _restore(connection, lines)
+        except BaseException:
+            connection.close(0)
+            raise
+        return cls._with(connection, journal, roll_when_full)
+
+    @classmethod
     def open_or_new(
         cls,
         root: str,
@@ -173,7 +278,8 @@ class Store(Snapshots, Files):
         """The store that the log tells, or a new one where there is no log, or none with a line.
 
         Raises what `from_log` and `Store` raise, and BadLog where the log's store was opened with other values than
-        these. Limits that were changed later, and namespaces that were made or removed, don't count.
+        these. Limits that were changed later, and namespaces that were made or removed, don't count. Of a store that was
+        restored in the log `root`, `slots`, `layer_inodes` and `ancestors` count, since nothing changes them.
         """
         bounds = {"journal": journal, "slots": slots, "layer_inodes": layer_inodes, "ancestors": ancestors}
         line = _opening(root, namespaces, **bounds)
@@ -182,7 +288,10 @@ class Store(Snapshots, Files):
         with connection.beginning():
             if _has_store(connection, log):
                 wanted, found = json.loads(line), _opening_in(log)
-                for field in ("root", "namespaces", *bounds):
+                fields = ["root", "namespaces", *bounds]
+                if found["do"] == "restore":
+                    wanted, fields = {**_DEFAULTS, **wanted}, ["root", *_DEFAULTS]
+                for field in fields:
                     if _in_order(wanted.get(field)) != _in_order(found.get(field)):
                         fault = f"the store was opened with {field} {found.get(field)}, not {wanted.get(field)}"
                         raise BadLog(os.fspath(log), 1, fault)
@@ -248,7 +357,8 @@ class Store(Snapshots, Files):
                 answer = self._made(line)
                 self._rounds += 1
             return answer
-        rolled = not self._rolls
+        # To save needs no room in this round: the next one would lack an entry.
+        rolled = not self._rolls or given.get("do") == "save"
         while True:
             rounds = self._rounds
             try:

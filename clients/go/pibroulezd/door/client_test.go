@@ -2,6 +2,7 @@ package door
 
 import (
 	"context"
+	"encoding/json"
 	"errors"
 	"fmt"
 	"net"
@@ -108,6 +109,42 @@ func TestGoClient(t *testing.T) {
 		t.Errorf("%v: a log beside a socket", err)
 	}
 	if _, err := pibroulez.New(ctx, pibroulez.Config{Socket: h.path + "x"}); !errors.Is(err, os.ErrNotExist) {
+		t.Error(err)
+	}
+}
+
+// An operator saves the store page by page, and a quota service doesn't. Another one's save ends the pages of the first.
+func TestSave(t *testing.T) {
+	h := newHouse(t, nil)
+	store, other := h.client(t), h.client(t)
+	_, err := store.Prepare(ctx, "a", "k", "")
+	granted(t, err)
+	var lines []string
+	granted(t, store.SaveAll(ctx, func(line json.RawMessage) error { lines = append(lines, string(line)); return nil }))
+	// A store, two namespaces, a snapshot and an end.
+	equal(t, len(lines), 5)
+	page, err := store.Save(ctx, 0, 1)
+	granted(t, err)
+	_, err = other.Prepare(ctx, "a", "k2", "")
+	granted(t, err)
+	rest, err := store.Save(ctx, page.Next, 0)
+	granted(t, err)
+	equal(t, len(rest.Lines), 4)
+	page, err = store.Save(ctx, 0, 1)
+	granted(t, err)
+	_, err = other.Save(ctx, 0, 1)
+	granted(t, err)
+	if _, err := store.Save(ctx, page.Next, 0); !errors.Is(err, pibroulez.ErrBadArgument) {
+		t.Error(err)
+	}
+	restored, err := pibroulez.Restore(ctx, program(), "", strings.NewReader(strings.Join(lines, "\n")))
+	granted(t, err)
+	defer restored.Close()
+	report, err := restored.Report(ctx)
+	granted(t, err)
+	equal(t, report.Records, 1)
+	h.allow(Rights{IsQuota: true})
+	if _, err := store.Save(ctx, 0, 1); !errors.Is(err, pibroulez.ErrNotAllowed) {
 		t.Error(err)
 	}
 }

@@ -42,7 +42,7 @@ func parse(text []byte) command {
 	delete(members, "do")
 	if !isText(do) || json.Unmarshal(do, &c.Do) != nil {
 		c.fault = "bad field do: the word of a command, in a job that of a file command, is wanted, " + kindOf(do) + " is there"
-	} else if c.Do == "open" {
+	} else if c.Do == "open" || c.Do == "restore" {
 		c.fault = "open twice"
 	}
 	return c

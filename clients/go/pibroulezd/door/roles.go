@@ -10,7 +10,7 @@ import (
 type Rights struct {
 	// IsOperator is for each command.
 	IsOperator bool
-	// IsQuota is for limits, and for what changes nothing and makes no entry, in each namespace.
+	// IsQuota is for limits, and for what changes nothing and makes no entry, in each namespace, but `save`.
 	IsQuota bool
 	// Namespaces are those whose tenant the caller is: for all commands on one of them but `limit`,
 	// `namespace_create` and `namespace_remove`, in session 0.
@@ -19,7 +19,7 @@ type Rights struct {
 
 // Whether a line may be sent. A word that isn't known is an operator's alone, since a later store may know it.
 func (r Rights) allow(line pibroulez.Line) bool {
-	if r.IsOperator || r.IsQuota && (line.Do == "limit" || line.IsQuestion()) {
+	if r.IsOperator || r.IsQuota && (line.Do == "limit" || line.IsQuestion() && line.Do != "save") {
 		return true
 	}
 	var namespace string
@@ -31,7 +31,10 @@ func (r Rights) allow(line pibroulez.Line) bool {
 }
 
 // IsKnown says whether a word is one of a command that the door knows.
-func IsKnown(do string) bool { return isTenants[do] || isShort[do] || do == "report" }
+func IsKnown(do string) bool { return isTenants[do] || isShort[do] || isWhole[do] }
+
+// Commands that ask for the whole store. Of these a quota service makes `report` alone.
+var isWhole = setOf("report", "save")
 
 // Commands of a tenant on its namespace.
 var isTenants = setOf(

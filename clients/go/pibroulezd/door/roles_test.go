@@ -79,6 +79,9 @@ var commands = []struct {
 	{`{"do":"journal","ns":"NS","full":true}`, true, true},
 	{`{"do":"journal"}`, true, false},
 	{`{"do":"report"}`, true, false},
+	{`{"do":"save"}`, false, false},
+	{`{"do":"save","ns":"NS"}`, false, false},
+	{`{"do":"save","ns":"NS","max":1,"s":0}`, false, false},
 	{`{"do":"no-such-command","ns":"NS"}`, false, false},
 	{`{"do":"prepare","key":"new","parent":""}`, false, false},
 	{`{"do":"prepare","ns":["NS"],"key":"new","parent":""}`, false, false},
@@ -161,6 +164,23 @@ func TestNobodyMakesIdentities(t *testing.T) {
 	}
 }
 
+// A store that is open takes no line of a saved one, whoever sends it: nothing is counted as a refusal, nor changed.
+func TestNobodyRestores(t *testing.T) {
+	h := newHouse(t, nil)
+	k := h.talk(t)
+	before, logged := h.seen(t)
+	for number, rights := range []Rights{{}, {IsQuota: true}, {Namespaces: map[string]bool{"a": true}}, {IsOperator: true}} {
+		h.allow(rights)
+		line := 2*number + 1
+		equal(t, k.ask(`{"do":"restore","piece":"end","lines":1,"id":7}`), fmt.Sprintf(`{"answer":{"fault":"open twice","line":%d},"id":7}`, line))
+		equal(t, k.ask(`{"do":"restore","ns":"a"}`), fmt.Sprintf(`{"fault":"open twice","line":%d}`, line+1))
+	}
+	after, still := h.seen(t)
+	equal(t, after, before)
+	equal(t, still, logged)
+	equal(t, h.refused.String(), "")
+}
+
 // Each command that the door knows is in the table.
 func TestAllCommandsHaveRoles(t *testing.T) {
 	isThere := map[string]bool{}
@@ -170,7 +190,7 @@ func TestAllCommandsHaveRoles(t *testing.T) {
 		granted(t, json.Unmarshal(line.Members["do"], &line.Do))
 		isThere[line.Do] = true
 	}
-	for _, words := range []map[string]bool{isTenants, isShort, {"report": true}} {
+	for _, words := range []map[string]bool{isTenants, isShort, isWhole} {
 		for it := range words {
 			if !isThere[it] {
 				t.Errorf("no row of %q", it)
