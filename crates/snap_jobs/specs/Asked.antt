@@ -51,14 +51,14 @@ abbrev pub is_question : Data → Bool
 is_question line = is_asking_in (text fields.Do line) && is_quiet_in (optional as_bool fields.Quiet (Ok false) line)
 
 -- what a command asks; no other one stands among jobs
-abbrev pub asked_by : Command → Result Asked Fault
-asked_by (commands.Ask question) = Ok (asks.Question question)
-asked_by (commands.ChainUsage namespace key) = Ok (asks.ChainUsage namespace key)
-asked_by command = Err (BadField fields.Do (Some Text))
+abbrev pub asked_command : Command → Result Asked Fault
+asked_command (commands.Ask question) = Ok (asks.Question question)
+asked_command (commands.ChainUsage namespace key) = Ok (asks.ChainUsage namespace key)
+asked_command command = Err (BadField fields.Do (Some Text))
 
 -- the same of the command of a line
 abbrev pub asked_in : Line → Result Asked Fault
-asked_in (lines.Command session command) = asked_by command
+asked_in (lines.Command session command) = asked_command command
 asked_in lines.Empty = Err (BadField fields.Do (Some Text))
 
 -- what a question asks, by the fields that it may have: it is read as in a script

@@ -10,7 +10,7 @@ ghost use Rattle.snap_script.specs.Gives.{Gives};
 ghost use Rattle.snap_call.specs.Questions.{asking};
 ghost use Rattle.snap_script.specs.About.{call_subjects, command_answer};
 ghost use Rattle.snap_script.specs.declared.answer.Answer.TheVariants as answers;
-ghost use Rattle.snap_jobs.specs.Asked.{answer_to, answers_text, asked_by, asked_in, asked_of, is_asking, is_asking_in, is_question, is_quiet_in};
+ghost use Rattle.snap_jobs.specs.Asked.{answer_to, answers_text, asked_command, asked_in, asked_of, is_asking, is_asking_in, is_question, is_quiet_in};
 
 use snap_call::{Question, Reply, is_start};
 use snap_json::Value;
@@ -69,8 +69,8 @@ fn no_question(_command: Command) -> Fault
 }
 
 // What a command asks.
-fn asked_by(command: Command) -> Result<Asked, Fault>
-    ensures { result ≡ asked_by command }
+fn asked_command(command: Command) -> Result<Asked, Fault>
+    ensures { result ≡ asked_command command }
 {
     match command {
         Command::Ask(question) => Ok(Asked::Question(question)),
@@ -86,7 +86,7 @@ fn asked_in(line: Line) -> Result<Asked, Fault>
         Line::Command {
             session: _,
             command,
-        } => asked_by(command),
+        } => asked_command(command),
         Line::Empty => Err(Fault::BadField(Field::Do, Some(Found::Text))),
     }
 }
