@@ -1,14 +1,18 @@
--- Laws of `GivesRun`, which says that a run exists: each follows from it alone, and a stored wrong body breaks it.
-use Rattle.std.proofs.Common.{◌≡◌, inl, inr, ℕ, ◌<◌, ◌≤◌, List, ◌++◌, length, drop, None, Result, Ok, Err, sym, ap, ◌∙◌, arith}
+-- Laws of `GivesRun`, which says that a run exists, and of `Called`: each follows from that alone, and a stored wrong body breaks it.
+use Rattle.std.proofs.Common.{◌≡◌, inl, inr, ℕ, Bool, true, ◌<◌, ◌≤◌, List, ◌++◌, length, drop, None, Result, Ok, Err, sym, ap, ◌∙◌, arith}
 use Rattle.std.specs.Prelude.{◌⊎◌}
 use Rattle.std.proofs.lemmas.Bool.{cases_lt}
 use Rattle.snap_script.specs.declared.fault.Fault.{Fault}
 use Rattle.snap_script.specs.declared.fault.Fault.TheVariants.{Refused}
+use Rattle.snap_lines.specs.Effects.{Effect}
 use Rattle.snap_lines.specs.Words.{fault_status}
 use Rattle.snap_lines.specs.declared.stop.Stop.{Stop}
 use Rattle.snap_lines.specs.declared.stop.Stop.TheVariants.{Line, InputFailed, OutputFailed, OutOfMemory}
 use Rattle.snap_session.specs.declared.run.RunOptions.{RunOptions}
 use Rattle.snap_session.specs.Script.{script}
+use Rattle.snap_session.specs.Service.{ServerValue, served}
+use Rattle.snap_c.specs.Calls.{Called}
+use Rattle.snap_c.specs.Held.{HeldValue}
 use Rattle.snap_c.specs.Run.{GivesRun, Ran, status_at}
 
 -- the status of a line's fault is not 0
@@ -52,3 +56,25 @@ no_fault_told options bytes line written before after none (ended, text, ran, gi
     by : (length before < length text) ⊎ (length text ≤ length before) → ⊥
     by (inl lacks) = let wrong = (given.lacks lacks).0 in absurd (omega (arith, wrong))
     by (inr fits) = not_faulty options bytes ended text none (given.fits fits).0 ran
+
+-- what is given of a result
+abbrev given_of : {A : Type 0} → A → Result A Fault → A
+given_of other (Ok it) = it
+given_of other (Err fault) = other
+
+-- a line that leaves a store is served, and its answer kept, and no other
+pub line_is_served : (held : HeldValue) (line : List ℕ) (status : ℕ) (held' : HeldValue) (written : ℕ) (before after : List ℕ) (effect : Effect ServerValue) → served held.server line ≡ Ok effect
+    → Called held line status true held' written before after → held' ≡ record { server = effect.value; answer = effect.text }
+line_is_served held line status held' written before after effect does (inl (stands, told, given)) =
+    ap (λ (it : Effect ServerValue). record { server = it.value; answer = it.text }) (ap (given_of effect) (sym told ∙ does))
+line_is_served held line status held' written before after effect does (inr (gone, refused, nothing)) = absurd (cc)
+
+-- a line with the status 0 gives the answer of what it is served, and no other
+pub answer_is_given : (held : HeldValue) (line : List ℕ) (stands : Bool) (held' : HeldValue) (written : ℕ) (before after : List ℕ) (effect : Effect ServerValue) → served held.server line ≡ Ok effect
+    → Called held line 0 stands held' written before after → after ≡ effect.text ++ drop (length effect.text) before
+answer_is_given held line stands held' written before after effect does (inl (stood, told, given)) = by (cases_lt (length before) (length held'.answer))
+  where
+    by : (length before < length held'.answer) ⊎ (length held'.answer ≤ length before) → after ≡ effect.text ++ drop (length effect.text) before
+    by (inl lacks) = let wrong = (given.lacks lacks).0 in absurd (omega (arith, wrong))
+    by (inr fits) = (given.fits fits).1 ∙ ap (λ (t : List ℕ). t ++ drop (length t) before) (ap (λ (it : Effect ServerValue). it.text) (ap (given_of effect) (sym told ∙ does)))
+answer_is_given held line stands held' written before after effect does (inr (gone, refused, nothing)) = absurd (omega (arith, refused))

@@ -1,1 +1,4 @@
+pub mod Calls
+pub mod Held
+pub mod Owned
 pub mod Run

@@ -1,12 +1,21 @@
-//! The static library for C: it runs a script that is in memory, as `snap_replay run` runs its standard input.
+//! The static library for C: it runs a script that is in memory, as `snap_replay run` runs its standard input, and keeps
+//! a store between calls, as `snap_replay serve` does between lines.
 //!
-//! What a caller gets is `GivesRun` in `specs/Run.antt`: the text of `script` of `snap_session`, as `replay` writes it,
-//! and how the run ended. `clients/c/pibroulez.h` has the declaration for C.
+//! What the caller of a run gets is `GivesRun` in `specs/Run.antt`: the text of `script` of `snap_session`, as `replay`
+//! writes it, and how the run ended. What the caller of a store gets of a line is `Called` in `specs/Calls.antt`: what
+//! `served` of `snap_session` makes of the store, and its text. `clients/c/pibroulez.h` has the declarations for C.
 #![tactic(auto)]
 
 ghost use Rattle.std.specs.Prelude.{◌≡◌};
 ghost use Rattle.snap_c.specs.Run.{Given, GivesRun, line_number_of, options_of, status_at};
 
+mod calls;
+mod handle;
+mod held;
+mod loose;
+
+pub use calls::{pibroulez_answer, pibroulez_call, pibroulez_close, pibroulez_open};
+pub use handle::{Handle, Opaque};
 use snap_script::FieldRule;
 use snap_session::{RunOptions, Stop, replay};
 use std::alloc::Global;
