@@ -100,9 +100,15 @@ def is_change(line, is_open):
         command = json.loads(line)
     except ValueError:
         return False
-    if command.get("do") == "open":
+    if command.get("do") in ("open", "restore"):
         return not is_open
     return is_open and command.get("do") in CALLS and not any(command.get(word) is True for word in ASKING)
+
+
+def opens(line, answer):
+    """Whether a line that was answered so has opened a store, or was the last one of a saved store, which stands."""
+    command = json.loads(line)
+    return b'{"ok":true}' in answer and (command["do"] == "open" or command.get("piece") == "end")
 
 
 def kept_lines(lines):

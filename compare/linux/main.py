@@ -116,9 +116,10 @@ def _cases_hold(bench: Bench) -> bool:
 
 
 def _examples() -> list[Path]:
-    """The scripts of the repository that end well, without those of jobs and those for a server, which have faulty lines."""
+    """The scripts of the repository that end well, without those of jobs, those for a server, which have faulty lines, and those
+    of saved stores, whose layers no operation makes."""
     scripts = sorted((REPOSITORY / "examples").glob("*/*.jsonl"))
-    of_run = [path for path in scripts if path.parent.name != "serve"]
+    of_run = [path for path in scripts if path.parent.name not in ("serve", "saved")]
     return [path for path in of_run if not any(path.with_suffix(end).exists() for end in (".status", ".workers"))]
 
 
