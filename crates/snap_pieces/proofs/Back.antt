@@ -71,7 +71,7 @@ snapshot_back h small is = by h.kind is
     by kinds.View is = λ i. snapshot_of h (id i) (Ok kinds.View)
     by (kinds.Active slot charged None) is = λ i. snapshot_of h (id i) (Ok (kinds.Active slot charged None))
     by (kinds.Active slot charged (Some hand)) is = λ i. snapshot_of h (id i)
-        (((layer_head_back hand.layer is i >>= λ layer. Ok (record { sealed = hand.sealed; layer = layer })) >>= λ (x : HandHead). Ok (Some x)) >>= λ held. Ok (kinds.Active slot charged held))
+        (((layer_head_back hand.layer is.3 i >>= λ layer. Ok (record { sealed = hand.sealed; layer = layer })) >>= λ (x : HandHead). Ok (Some x)) >>= λ held. Ok (kinds.Active slot charged held))
     by (kinds.Committed layer) is = λ i. snapshot_of h (id i) (layer_head_back layer is i >>= λ l. Ok (kinds.Committed l))
 
 -- ---- pieces of layers
@@ -116,6 +116,6 @@ piece_back (pieces.Leased name) is = refl
 
 -- what is read of a line is what was written
 pub line_back : (l : Line) → IsLine l → line_said (line_data l) ≡ Ok l
-line_back (lines.Head h) is = λ i. (small_back fields.FirstId h.first_id is i >>= λ first. Ok (record h { first_id = first })) >>= λ (x : StoreHead). Ok (lines.Head x)
+line_back (lines.Head h) is = λ i. (small_back fields.FirstId h.first_id is.0 i >>= λ first. Ok (record h { first_id = first })) >>= λ (x : StoreHead). Ok (lines.Head x)
 line_back (lines.Piece piece) is = piece_back piece is
 line_back (lines.End n) is = refl

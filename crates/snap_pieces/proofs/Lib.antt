@@ -1,2 +1,4 @@
 pub mod Members
 pub mod Back
+pub mod FlatLaws
+pub mod TextLaws

@@ -18,20 +18,24 @@ use Rattle.snap_pieces.specs.declared.piece.StorePiece.TheVariants as pieces
 abbrev pub IsSmall : ℕ → Type 0
 IsSmall n = n < 2 ^ 32
 
+-- a number of 64 bits
+abbrev pub IsWide : ℕ → Type 0
+IsWide n = n < 2 ^ 64
+
 -- a layer's head
 abbrev pub IsHead : Head → Type 0
-IsHead h = IsSmall h.meta.mode × IsSmall h.next
+IsHead h = IsSmall h.meta.mode × IsSmall h.next × IsWide h.most
 
 -- what a snapshot holds
 abbrev pub IsKind : SnapshotKind → Type 0
 IsKind kinds.View = Unit {0}
-IsKind (kinds.Active slot charged hand) = IfSome hand (λ h. IsHead h.layer)
+IsKind (kinds.Active slot charged hand) = IsWide slot × IsWide charged.blocks × IsWide charged.inodes × IfSome hand (λ h. IsHead h.layer)
 IsKind (kinds.Committed layer) = IsHead layer
 
 -- what a file or symlink is
 abbrev pub IsFileKind : FileKind → Type 0
 IsFileKind (file_kinds.Bytes meta) = IsSmall meta.mode
-IsFileKind (file_kinds.Sized meta size digest) = IsSmall meta.mode × IfSome digest IsBytes
+IsFileKind (file_kinds.Sized meta size digest) = IsSmall meta.mode × IfSome digest IsBytes × IsWide size
 IsFileKind (file_kinds.Symlink target) = IsBytes target
 
 -- a piece of a layer
@@ -44,12 +48,15 @@ IsLayerPiece (layer_pieces.Name p) = IsPath p
 
 -- a piece of a store
 abbrev pub IsStorePiece : StorePiece → Type 0
-IsStorePiece (pieces.Snapshot h) = IsSmall h.id × IsKind h.kind
+IsStorePiece (pieces.Namespace n) = IsWide n.limit.blocks × IsWide n.limit.inodes
+IsStorePiece (pieces.Snapshot h) = IsSmall h.id × IsKind h.kind × IsWide h.created × IsWide h.updated
 IsStorePiece (pieces.Layer piece) = IsLayerPiece piece
-IsStorePiece piece = Unit {0}
+IsStorePiece (pieces.Label key value) = Unit {0}
+IsStorePiece (pieces.Lease namespace name until) = IfSome until IsWide
+IsStorePiece (pieces.Leased name) = Unit {0}
 
 -- a line
 abbrev pub IsLine : Line → Type 0
-IsLine (lines.Head h) = IsSmall h.first_id
+IsLine (lines.Head h) = IsSmall h.first_id × IsWide h.slots × IsWide h.journal × IsWide h.layer_inodes × IsWide h.ancestors × IsWide h.entries × IsWide h.next_id
 IsLine (lines.Piece piece) = IsStorePiece piece
-IsLine (lines.End n) = Unit {0}
+IsLine (lines.End n) = IsWide n

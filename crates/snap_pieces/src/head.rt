@@ -4,7 +4,8 @@ ghost use Rattle.std.specs.Option.{option_map};
 ghost use Rattle.serde_json.specs.Data.{Members};
 ghost use Rattle.snap_json.specs.Tokens.{with_members, with_value};
 ghost use Rattle.snap_json.specs.View.{view};
-ghost use Rattle.snap_pieces.specs.Back.{IsKind, IsSmall};
+ghost use Rattle.snap_pieces.specs.Back.{IsKind, IsLine, IsSmall, IsWide};
+ghost use Rattle.snap_pieces.specs.declared.line.Line.TheVariants as line_kinds;
 ghost use Rattle.snap_pieces.specs.Gives.{GivesLine};
 ghost use Rattle.snap_pieces.specs.Read.{active_read, hand_head_read, store_read, kind_read, layer_head_read, maybe_read, snapshot_read};
 ghost use Rattle.snap_pieces.specs.Written.{charged_in, first_members, head_data, kind_name, last_members, layer_in, next_members, sealed_in, active_slot, snapshot_data};
@@ -39,7 +40,7 @@ pub(crate) fn read_head(alloc: Global, line: &Value<'_>) -> Result<StoreHead, Li
 
 pub(crate) fn write_head(out: &mut Writer, head: &StoreHead) -> Result<(), AllocError>
     ensures written { OnOk result (out.new ≡ with_value (head_data head.now) out.old) }
-    ensures is { OnOk result (IsSmall head.now.first_id) }
+    ensures is { OnOk result (IsLine (line_kinds.Head head.now)) }
 {
     out.token(Token::BeginObject)?;
     put_number(out, "ancestors", head.ancestors)?;
@@ -226,7 +227,7 @@ fn no_parts(layer: Option<Head>) -> KindParts
 #[tactic(auto, using(crate::proofs::Members::with_members_maybe))]
 fn put_first(out: &mut Writer, head: &SnapshotHead) -> Result<(), AllocError>
     ensures written { (rest : Members) → OnOk result (with_members (first_members head.now rest) out.old ≡ with_members rest out.new) }
-    ensures is { OnOk result (IsKind head.now.kind) }
+    ensures is { OnOk result (IsKind head.now.kind × IsWide head.now.created) }
 {
     let kind = kind_parts(head.kind);
     put_maybe_number(out, "blocks", kind.blocks)?;
@@ -257,7 +258,7 @@ fn put_next(out: &mut Writer, head: &SnapshotHead) -> Result<(), AllocError>
 #[tactic(auto, using(crate::proofs::Members::with_members_maybe))]
 fn put_last(out: &mut Writer, head: &SnapshotHead) -> Result<(), AllocError>
     ensures written { OnOk result (out.new ≡ with_members (last_members head.now) out.old) }
-    ensures is { OnOk result (IsSmall head.now.id) }
+    ensures is { OnOk result (IsSmall head.now.id × IsWide head.now.updated) }
 {
     let kind = kind_parts(head.kind);
     put_text(out, "piece", "snapshot")?;
@@ -270,7 +271,7 @@ fn put_last(out: &mut Writer, head: &SnapshotHead) -> Result<(), AllocError>
 
 pub(crate) fn write_snapshot(out: &mut Writer, head: &SnapshotHead) -> Result<(), AllocError>
     ensures written { OnOk result (out.new ≡ with_value (snapshot_data head.now) out.old) }
-    ensures is { OnOk result (IsSmall head.now.id × IsKind head.now.kind) }
+    ensures is { OnOk result (IsSmall head.now.id × IsKind head.now.kind × IsWide head.now.created × IsWide head.now.updated) }
 {
     out.token(Token::BeginObject)?;
     put_first(out, head)?;

@@ -8,7 +8,7 @@ ghost use Rattle.serde_json.specs.Data.{boolean, string};
 ghost use Rattle.snap_json.specs.Tokens.{with_value};
 ghost use Rattle.snap_json.specs.View.{view};
 ghost use Rattle.json.specs.Token as tokens;
-ghost use Rattle.snap_pieces.specs.Back.{IsSmall};
+ghost use Rattle.snap_pieces.specs.Back.{IsSmall, IsWide};
 ghost use Rattle.snap_pieces.specs.Gives.{GivesLine, Lends};
 ghost use Rattle.snap_pieces.specs.Read.{bytes_read, flag_read, maybe_read, meta_read, natural_read, names_read, small_read, text_read, usage_read};
 ghost use Rattle.snap_pieces.specs.Members.{maybe_tokens};
@@ -162,7 +162,8 @@ pub(crate) fn put_text(out: &mut Writer, key: &str, text: &str) -> Result<(), Al
 
 /// Writes a member that is a number.
 pub(crate) fn put_number(out: &mut Writer, key: &str, number: u64) -> Result<(), AllocError>
-    ensures { OnOk result (out.new ≡ with_value (natural_data number) (tokens.key key.now ∷ out.old)) }
+    ensures wide { IsWide number }
+    ensures written { OnOk result (out.new ≡ with_value (natural_data number) (tokens.key key.now ∷ out.old)) }
 {
     out.token(Token::Key(key))?;
     out.number(number)
@@ -190,7 +191,8 @@ pub(crate) fn put_maybe_number(
     key: &str,
     number: Option<u64>,
 ) -> Result<(), AllocError>
-    ensures { OnOk result (out.new ≡ maybe_tokens key.now (option_map natural_data number) out.old) }
+    ensures wide { IfSome number IsWide }
+    ensures written { OnOk result (out.new ≡ maybe_tokens key.now (option_map natural_data number) out.old) }
 {
     match number {
         Some(number) => put_number(out, key, number),

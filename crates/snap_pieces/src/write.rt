@@ -1,7 +1,9 @@
 //! From what is saved to its line.
-ghost use Rattle.std.specs.Prelude.{◌≡◌, Ok, OnOk};
+ghost use Rattle.std.specs.Prelude.{◌≡◌, Some, Ok, OnOk};
+ghost use Rattle.serde_json.specs.Read.{read};
+ghost use Rattle.serde_json.specs.Written.{compact_text};
 ghost use Rattle.snap_json.specs.Tokens.{with_value};
-ghost use Rattle.snap_pieces.specs.Back.{IsStorePiece};
+ghost use Rattle.snap_pieces.specs.Back.{IsLine, IsStorePiece};
 ghost use Rattle.snap_pieces.specs.Read.{line_said};
 ghost use Rattle.snap_pieces.specs.Written.{line_data, piece_data};
 
@@ -59,11 +61,14 @@ fn write_piece(alloc: Global, out: &mut Writer, piece: &StorePiece) -> Result<()
 ///
 /// It fails only where memory is refused, and then nothing is said of what `out` has. Takes memory for the text, and for the hexadecimal digits of bytes. The cost
 /// grows with them.
-#[tactic(auto, using(crate::proofs::Back::line_back))]
+#[tactic(auto, using(crate::proofs::Back::line_back, crate::proofs::TextLaws::line_reads))]
 pub fn write_line(alloc: Global, out: &mut Writer, line: &Line) -> Result<(), AllocError>
     ensures written { OnOk result (out.new ≡ with_value (line_data line.now) out.old) }
     // What is read of a line is what was written.
     ensures back { OnOk result (line_said (line_data line.now) ≡ Ok line.now) }
+    // What is read of its text is its value.
+    ensures reads { OnOk result (read (compact_text (line_data line.now)) ≡ Some (line_data line.now)) }
+    ensures is { OnOk result (IsLine line.now) }
 {
     match line {
         Line::Head(head) => write_head(out, head),
