@@ -6,7 +6,8 @@ use Rattle.snap_log.specs.Log.{IsHonest, Keeps, text_in}
 use Rattle.snap_log.specs.Texts.{log_text}
 use Rattle.snap_log.specs.declared.log.Log.{Log}
 use Rattle.snap_log.proofs.LogLaws.{log_keeps}
-use Rattle.snap_pair.specs.Pair.{PairKeeps}
+use Rattle.snap_pair.specs.Pair.{ArePairHonest, PairKeeps, lines_in}
+use Rattle.snap_pair.specs.declared.pair.Pair.{Pair}
 use Rattle.snap_pair.specs.Texts.{counting, pair_text}
 
 -- the first, where the second is empty
@@ -51,6 +52,14 @@ module _ {D : Type 0} {g : Ghosts D} (first second : Log D g) (text : List ℕ) 
         first = (log_keeps first honest).opens;
         second = keeps.opens;
       }
+
+-- two logs keep the lines that count
+pub pair_keeps : {D : Type 0} {g : Ghosts D} (p : Pair D g) → ArePairHonest p → PairKeeps p (lines_in p)
+pair_keeps p honest = by (text_in p.second) refl
+  where
+    by : (t : List ℕ) → text_in p.second ≡ t → PairKeeps p (counting (text_in p.first) t)
+    by [] is = first_keeps p.first p.second (text_in p.first) honest.1 (ap (λ (l : List ℕ). length l) is) (log_keeps p.first honest.0)
+    by (b ∷ bytes) is = second_keeps p.first p.second (b ∷ bytes) honest.0 (omega arith) (subst (λ (l : List ℕ). Keeps p.second l) is (log_keeps p.second honest.1))
 
 -- what counts in the file, with lines or without
 pub either_in : (text lines c p : List ℕ) → p ≡ log_text c → IsBeforeOrAfter text lines c → (p ≡ text) ⊎ (p ≡ text ++ lines)

@@ -1,5 +1,5 @@
 -- What two files show, and what calls on them answer.
-use Rattle.std.specs.Prelude.{◌≡◌, ◌⊎◌, ℕ, List, Result, Ok, Err, IsTrue, ⊤}
+use Rattle.std.specs.Prelude.{◌≡◌, ◌⊎◌, ℕ, List, Result, Ok, Err, IsTrue, ⊤, if◌then◌else◌}
 use Rattle.sqlite_disk.specs.Disk.{MoreFaults}
 use Rattle.sqlite_disk.specs.declared.Disk.{Ghosts}
 use Rattle.snap_log.specs.Log.{disk_of, text_in, IsHonest}
@@ -10,6 +10,7 @@ use Rattle.snap_pair.specs.declared.error.Which.TheVariants.{First, Second}
 use Rattle.snap_pair.specs.declared.error.Failed.{Failed}
 use Rattle.snap_pair.specs.declared.error.Failed.TheVariants.{NotKept, Unknown}
 use Rattle.snap_pair.specs.declared.error.PairUnopened.{PairUnopened}
+use Rattle.snap_pair.specs.declared.halves.Halves.{Halves}
 use Rattle.snap_pair.specs.declared.pair.Pair.{Pair}
 
 -- this one of two files
@@ -50,6 +51,10 @@ module _ {D : Type 0} {g : Ghosts D} where
 
   abbrev pub second_of : Pair D g → D
   second_of p = disk_of p.second
+
+  -- the pair of two logs, of which one was apart
+  abbrev pub joined : Halves D g → Pair D g
+  joined h = if h.is_second then record { first = h.other; second = h.counting } else record { first = h.counting; second = h.other }
 
   -- no answer of the disks was a lie
   abbrev pub ArePairHonest : Pair D g → Type 0

@@ -8,9 +8,11 @@
 
 mod error;
 mod finish;
+mod halves;
 mod pair;
 mod replacing;
 
 pub use error::{Failed, PairUnopened, ReplaceFailed, Which};
+pub use halves::Halves;
 pub use pair::Pair;
 pub use replacing::Replacing;

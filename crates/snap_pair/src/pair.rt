@@ -1,11 +1,13 @@
 //! Two files of which one counts.
-ghost use Rattle.std.specs.Prelude.{◌≡◌, ◌⊎◌, ◌+◌, ◌<◌, ◌≤◌, ◌^◌, ℕ, false, List, [], ◌++◌, length, take, drop, IfOk, IfErr, OnOk, IsTrue};
+ghost use Rattle.std.specs.Prelude.{◌≡◌, ◌⊎◌, ◌+◌, ◌<◌, ◌≤◌, ◌^◌, ℕ, false, true, List, [], ◌++◌, length, take, drop, IfOk, IfErr, OnOk, IsTrue};
 ghost use Rattle.sqlite_disk.specs.Disk.{MoreFaults};
+ghost use Rattle.snap_log.specs.Log.{text_in};
 ghost use Rattle.snap_log.specs.Opening.{FailsFor, IsRefusedFile, RefusesFile};
 ghost use Rattle.snap_log.specs.Texts.{log_text, AreLines};
 ghost use Rattle.snap_pair.specs.Texts.{pair_text};
 
 use crate::error::{Failed, PairUnopened, ReplaceFailed, Which};
+use crate::halves::{Halves, apart};
 use crate::replacing::Replacing;
 use snap_log::{AppendFailed, ClearFailed, Log, OpenFailed};
 use sqlite_disk::Disk;
@@ -21,7 +23,7 @@ pub struct Pair<D: Disk> {
 }
 
 impl<D: Disk> Pair<D> {
-    ghost use Rattle.snap_pair.specs.Pair.{ArePairHonest, AreHonestAfter, IfPairNotKept, OneFailed, PairKeeps, file_of, first_after, first_of, first_opened, lines_in, second_after, second_of, second_opened};
+    ghost use Rattle.snap_pair.specs.Pair.{ArePairHonest, AreHonestAfter, IfPairNotKept, OneFailed, PairKeeps, file_of, first_after, first_of, first_opened, joined, lines_in, second_after, second_of, second_opened};
     ghost use Rattle.snap_pair.specs.Replacing.{AreHonestReplaced, AreReplacingHonest, LeavesCounting, first_replaced, lines_coming, lines_counting, second_replaced};
 
     /// Opens two files as one log.
@@ -151,6 +153,18 @@ impl<D: Disk> Pair<D> {
                 Err(Failed::Unknown(first.into_disk(), second, error))
             }
         }
+    }
+
+    /// The log that counts, and the other one. Takes no memory, and calls no disk.
+    pub fn split(self) -> Halves<D>
+        ensures same { joined result ≡ self }
+        ensures counting { ArePairHonest self → text_in result.counting ≡ lines_in self }
+        // The second file counts where it has a line.
+        ensures none { ArePairHonest self → result.is_second ≡ false → text_in result.other ≡ [] }
+        ensures some { ArePairHonest self → result.is_second ≡ true → 0 < length (text_in result.counting) }
+    {
+        let Pair { first, second } = self;
+        apart(first, second)
     }
 
     // Of these two.
