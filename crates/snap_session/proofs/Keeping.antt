@@ -31,11 +31,11 @@ use Rattle.snap_marks.specs.Sums.{mark_compared, passed, summed}
 use Rattle.snap_marks.proofs.MarkLaws.{length_chained, marked_answers, marked_lines, marked_told}
 use Rattle.snap_session.proofs.Asking.{script_asked}
 
-abbrev script_of : KeptValue → ScriptValue
+abbrev pub script_of : KeptValue → ScriptValue
 script_of v = v.server.stepped.script
 
 -- what a line makes of the script: a page of the store's lines leaves it
-abbrev done_by : ScriptValue → Result Line Fault → ScriptValue
+abbrev pub done_by : ScriptValue → Result Line Fault → ScriptValue
 done_by s (Err fault) = s
 done_by s (Ok Empty) = s
 done_by s (Ok (Command session command)) = (script_done s session command).0
@@ -58,7 +58,7 @@ script_left s n (Ok Empty) = refl
 script_left s n (Ok (Command session command)) = command_left s session command
 
 -- the script after a line that is carried out, or isn't
-abbrev after : Bool → ScriptValue → List ℕ → ScriptValue
+abbrev pub after : Bool → ScriptValue → List ℕ → ScriptValue
 after true s line = done_by s (kept_line s line)
 after false s line = s
 
@@ -92,7 +92,7 @@ script_if true s n line = script_left s n (kept_line s.script line)
 script_if false s n line = refl
 
 -- the script after a line is by the script before, and by whether it is carried out
-script_after : (v : KeptValue) (line : List ℕ) (e : Effect KeptValue) → served_kept v line ≡ Ok e → script_of e.value ≡ after (v.keeps || not (would_change v line)) (script_of v) line
+pub script_after : (v : KeptValue) (line : List ℕ) (e : Effect KeptValue) → served_kept v line ≡ Ok e → script_of e.value ≡ after (v.keeps || not (would_change v line)) (script_of v) line
 unfolding served_kept
 script_after v line e h =
     ap (λ (r : Result (Effect KeptValue) Fault). (value_in e.value r).server.stepped.script) (sym h)

@@ -9,3 +9,4 @@ mod Paging
 mod Restoring
 mod Told
 pub mod Whole
+pub mod ToldLaws

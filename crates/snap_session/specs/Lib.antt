@@ -11,6 +11,7 @@ pub mod Commands
 pub mod Wanting
 pub mod Pages
 pub mod Restoring
+pub mod Saving
 pub mod Script
 pub mod Service
 pub mod Kept

@@ -1,16 +1,18 @@
-ghost use Rattle.std.specs.Prelude.{◌≡◌, ◌||◌, if◌then◌else◌, not, IfOk, OnOk};
+ghost use Rattle.std.specs.Prelude.{◌≡◌, ◌||◌, if◌then◌else◌, not, IfOk, OnOk, option_copied, option_map};
 ghost use Rattle.snap_marks.specs.Marks.{is_mark_line};
 ghost use Rattle.snap_marks.specs.Sums.{marks_agree, mark_compared, passed, rebased_mark, summed};
 ghost use Rattle.snap_script.specs.Requests.{id_of};
 ghost use Rattle.snap_lines.specs.Transcripts.{next_line};
+ghost use Rattle.snap_session.specs.Saving.{SavesRolled, saving_of};
 ghost use Rattle.snap_session.specs.Kept.{counted_anew, has_store, idle_kept, is_changing, kept_line, kept_so, mark_of, responded_kept, served_kept, would_change};
 
+use crate::saving::{Saving, saved_by};
 use crate::server::Server;
 use snap_ledger::{NewTable, StoreName};
 use snap_lines::{KeepLine, TakeLine};
 use snap_marks::{Sums, is_mark};
 use snap_script::{Fault, Line, ReadError, Request, Response};
-use snap_world::NoMemory;
+use snap_world::{NoMemory, World};
 use std::alloc::{AllocError, Global};
 use std::marker::Model;
 
@@ -95,6 +97,13 @@ impl<N: StoreName> KeptServer<N> {
         &self.sums
     }
 
+    /// The world of the store, where one stands. Takes no memory. The cost is constant.
+    pub fn world(&self) -> Option<&World<N>>
+        ensures { option_copied result ≡ option_map (λ opened. opened.world) self.now.server.stepped.script.store }
+    {
+        self.server.world()
+    }
+
     /// The mark from which on marks are compared anew, without its line feed.
     ///
     /// `AllocError` where memory for its bytes was refused.
@@ -102,6 +111,22 @@ impl<N: StoreName> KeptServer<N> {
         ensures { IfOk result (λ line. line.items ≡ rebased_mark self.now.sums) }
     {
         self.sums.rebased(alloc)
+    }
+
+    /// What is saved of the store.
+    ///
+    /// `NoStore` where none stands; `Refused` where a roll to as many entries would be, by `NumbersSpent` or `JournalFull`.
+    /// It fails only where memory is refused. Takes memory for a copy of all records, labels and layers; the cost grows
+    /// with them.
+    pub fn save(&self, alloc: Global) -> Result<Saving, NoMemory>
+        ensures saved { IfOk result (λ saving. saving ≡ saving_of self.now.server.stepped.script.store) }
+        // The lines make the store that a roll to as many entries leaves.
+        ensures rolled { IfOk result (λ saving. SavesRolled self.now.server.stepped.script.store saving) }
+    {
+        match self.world() {
+            Some(world) => saved_by(alloc, world),
+            None => Ok(Saving::NoStore),
+        }
     }
 
     // Reads a line with its id.

@@ -24,6 +24,7 @@ mod restore;
 mod room;
 mod round;
 mod run;
+mod saving;
 mod script;
 mod server;
 mod step;
@@ -32,6 +33,7 @@ mod tree;
 
 pub use kept::KeptServer;
 pub use run::{RunOptions, Runner, replay, replay_within};
+pub use saving::Saving;
 pub use script::Script;
 pub use server::{Server, serve};
 pub use snap_lines::{LineFault, Stop};

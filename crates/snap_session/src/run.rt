@@ -1,4 +1,4 @@
-ghost use Rattle.std.specs.Prelude.{◌≡◌, None, OnOk, IfErr, IfSome, string_bytes};
+ghost use Rattle.std.specs.Prelude.{◌≡◌, None, OnOk, IfErr, IfSome, option_copied, option_map, string_bytes};
 ghost use Rattle.snap_lines.specs.Transcripts.{Tells};
 ghost use Rattle.snap_script.specs.Gives.{Gives};
 ghost use Rattle.snap_session.specs.Script.{HasStopped, effect_of, script, text_told, unbegun};
@@ -7,6 +7,7 @@ use crate::stepper::Stepper;
 use snap_ledger::{NewTable, StoreName};
 use snap_lines::{MAX_BYTES, Stop, TakeLine, read_lines};
 use snap_script::{Answer, Fault, FieldRule, ReadError, Scratch, read_line};
+use snap_world::World;
 use std::alloc::Global;
 use std::io::{Read, Write};
 use std::marker::{Brand, Model};
@@ -50,6 +51,13 @@ impl<N: StoreName> Runner<N> {
             options,
             scratch: Scratch::new(alloc),
         }
+    }
+
+    /// The world of the store, where one stands. Takes no memory. The cost is constant.
+    pub fn world(&self) -> Option<&World<N>>
+        ensures { option_copied result ≡ option_map (λ opened. opened.world) self.now.stepped.script.store }
+    {
+        self.stepper.world()
     }
 }
 

@@ -1,4 +1,4 @@
-ghost use Rattle.std.specs.Prelude.{◌≡◌, None, IfOk, OnOk, IfErr, IfSome, is_some};
+ghost use Rattle.std.specs.Prelude.{◌≡◌, None, IfOk, OnOk, IfErr, IfSome, is_some, option_copied, option_map};
 ghost use Rattle.snap_script.specs.Lines.{line_of};
 ghost use Rattle.snap_script.specs.Requests.{id_of};
 ghost use Rattle.snap_script.specs.declared.response.Response.TheVariants.{NotKept};
@@ -10,7 +10,7 @@ use crate::stepper::Stepper;
 use snap_ledger::{NewTable, StoreName};
 use snap_lines::{Stop, TakeLine, read_lines};
 use snap_script::{Fault, Line, ReadError, Request, Response, Scratch, read_request};
-use snap_world::NoMemory;
+use snap_world::{NoMemory, World};
 use std::alloc::Global;
 use std::io::{Read, Write};
 use std::marker::{Brand, Model};
@@ -102,6 +102,13 @@ impl<N: StoreName> Server<N> {
         ensures { result ≡ is_some self.now.stepped.script.store }
     {
         self.stepper.is_open()
+    }
+
+    // The world of the store, where one stands.
+    pub(crate) fn world(&self) -> Option<&World<N>>
+        ensures { option_copied result ≡ option_map (λ opened. opened.world) self.now.stepped.script.store }
+    {
+        self.stepper.world()
     }
 
     // The next line is the first.

@@ -1,11 +1,11 @@
-ghost use Rattle.std.specs.Prelude.{◌≡◌, IfOk, Some, is_some};
+ghost use Rattle.std.specs.Prelude.{◌≡◌, IfOk, Some, is_some, option_copied, option_map};
 ghost use Rattle.snap_session.specs.Script.{line_step, paged, unstepped};
 
 use crate::pages::Pages;
 use crate::script::Script;
 use snap_ledger::{NewTable, StoreName};
 use snap_script::{Answer, Command, Line};
-use snap_world::NoMemory;
+use snap_world::{NoMemory, World};
 use std::alloc::Global;
 use std::marker::Model;
 
@@ -44,6 +44,13 @@ impl<N: StoreName> Stepper<N> {
         ensures { result ≡ is_some self.now.script.store }
     {
         self.script.is_open()
+    }
+
+    /// The world of the store, where one stands. Takes no memory. The cost is constant.
+    pub fn world(&self) -> Option<&World<N>>
+        ensures { option_copied result ≡ option_map (λ opened. opened.world) self.now.script.store }
+    {
+        self.script.world()
     }
 
     // A page of the lines of the saved store.
