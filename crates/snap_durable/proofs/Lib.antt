@@ -7,3 +7,8 @@ pub mod LeadLaws
 pub mod WholeLaws
 pub mod RestartLaws
 pub mod LoggedLaws
+pub mod FeedLaws
+pub mod SavedLaws
+pub mod CheckpointLaws
+pub mod HalfLaws
+pub mod PairServeLaws

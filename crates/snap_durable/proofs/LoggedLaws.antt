@@ -33,7 +33,7 @@ ok_is (Ok e) h = (e, refl)
 ok_is (Err fault) h = absurd (cc)
 
 -- a text of a mark changes nothing
-text_left : (lines answers end : List ℕ) → IsOneLine end → (v : KeptValue) → would_change v (line_read ((stem lines answers ++ end) ++ 10 ∷ [])) ≡ false
+pub text_left : (lines answers end : List ℕ) → IsOneLine end → (v : KeptValue) → would_change v (line_read ((stem lines answers ++ end) ++ 10 ∷ [])) ≡ false
 unfolding line_read
 text_left lines answers end one v =
     let m : List ℕ = stem lines answers ++ end in
@@ -59,7 +59,7 @@ keeps_part = record {
 }
 
 -- a mark is a line of a log
-no_feed : (bytes : List ℕ) → IsOneLine bytes → has_feed bytes ≡ false
+pub no_feed : (bytes : List ℕ) → IsOneLine bytes → has_feed bytes ≡ false
 no_feed [] one = refl
 no_feed (b ∷ bytes) one = by (b == 10) (no_feed bytes) one
   where
@@ -81,8 +81,8 @@ change_same : (v w : KeptValue) (line : List ℕ) → kept_part v ≡ kept_part 
 change_same v w line same = change_alike v w line (ap (λ (k : KeptPart). k.script) same)
 
 -- the marks agree, up to the last line
-record IsSound (u : KeptValue) : Type 0 where
-  whole : marks_agree u.sums ≡ true
+pub record IsSound (u : KeptValue) : Type 0 where
+  pub whole : marks_agree u.sums ≡ true
   told : u.sums.told ≡ u.sums.answers
   steady : IsSteady u.sums
 
@@ -118,7 +118,7 @@ adds_sums (r ∷ rs) u x also steady (e, one, change, p, more) =
     }
 
 -- a mark is read whole
-mark_read : (m : List ℕ) → IsOneLine m → length m ≤ line_limit → line_read (m ++ 10 ∷ []) ≡ m
+pub mark_read : (m : List ℕ) → IsOneLine m → length m ≤ line_limit → line_read (m ++ 10 ∷ []) ≡ m
 unfolding line_read
 mark_read m one low = ap (take line_limit) (feed_ended m one) ∙ take_all line_limit m low
 
@@ -145,7 +145,7 @@ no_line (b ∷ m) h = absurd (cc)
 ends_alike : (m r : List ℕ) → m ++ 10 ∷ [] ≡ r ++ 10 ∷ [] → m ≡ r
 ends_alike m r h = append_cancel_right m r (10 ∷ []) h
 
-sounds : (v u x : KeptValue) (rs : List (List ℕ)) (e : Effect KeptValue) → kept_part v ≡ kept_part u → kept_so true u ≡ u → IsSound u → Adds served_kept would_change mark_of kept_so has_store kept_part keeps_part u rs x
+pub sounds : (v u x : KeptValue) (rs : List (List ℕ)) (e : Effect KeptValue) → kept_part v ≡ kept_part u → kept_so true u ≡ u → IsSound u → Adds served_kept would_change mark_of kept_so has_store kept_part keeps_part u rs x
     → served_kept x (line_read (mark_of v (joined served_kept would_change mark_of kept_so has_store kept_part keeps_part rs) ++ 10 ∷ [])) ≡ Ok e → IsSound e.value
 sounds v u x rs e same also sound adds p =
     let J : List ℕ = joined served_kept would_change mark_of kept_so has_store kept_part keeps_part rs in
@@ -168,6 +168,9 @@ begun_steady (line ∷ lines) v w steady (e, p, more) = begun_steady lines e.val
 
 idle_steady : IsSteady no_sums
 idle_steady = record { told = λ ends. refl; lines = refl; answers = refl }
+
+pub idle_sound : IsSound idle_kept
+idle_sound = record { whole = refl; told = refl; steady = idle_steady }
 
 replayed_steady : (text : List ℕ) (begun : KeptValue) → IsReplayed served_kept idle_kept text begun → IsSteady begun.sums
 replayed_steady text begun was = begun_steady (lines_of (whole_in text_limit text)) idle_kept begun idle_steady (leads_of served_kept idle_kept (lines_of (whole_in text_limit text)) was.answers begun was.serves)

@@ -1,6 +1,11 @@
+pub mod Checked
+pub mod Checkpoints
 pub mod Ended
+pub mod Holdings
 pub mod Laws
 pub mod Logged
+pub mod Pairs
 pub mod Parts
 pub mod Serves
 pub mod Served
+pub mod Told

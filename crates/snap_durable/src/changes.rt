@@ -21,7 +21,7 @@ fn line_read(line: &[u8]) -> &[u8]
 }
 
 // What is read of the first line of some bytes, and the lines behind it.
-fn first_line(bytes: &[u8]) -> (&[u8], &[u8])
+pub(crate) fn first_line(bytes: &[u8]) -> (&[u8], &[u8])
     requires { 0 < length bytes.now }
     ensures lines { (head : List ℕ) × ((lines_of bytes.now ≡ head ∷ lines_of result.1.now) × (line_read head ≡ result.0.now)) }
     ensures fewer { length result.1.now < length bytes.now }

@@ -111,6 +111,7 @@ fn serve_by<N: StoreName, R: Read, W: Write, D: Disk>(
     ensures differs { IfErr result (λ why. IfDiffers why (λ log_new sums. IsRefused log log_new sums)) }
     ensures crash { IsTrue (D.Disk.is_clean (disk_left result)) → (c : List ℕ) → D.Disk.may_leave (disk_left result) c
         → IfSome (R.remaining input.old) (λ bytes. LeavesLog rebases bytes (text_in log) c (W.contents output.old) (W.contents output.new)) }
+    ensures clean { IsTrue (D.Disk.is_clean (disk_left result)) → IsHonest log }
 {
     if let Err(error) = replay(alloc, server, &mut log) {
         return Err(Unserved::Replay(log, error));
@@ -139,6 +140,7 @@ fn run<N: StoreName, R: Read, W: Write, D: Disk>(
     ensures differs { IfErr result (λ why. IfDiffers why (λ log_new sums. IsRefused log log_new sums)) }
     ensures crash { IsTrue (D.Disk.is_clean (disk_left result)) → (c : List ℕ) → D.Disk.may_leave (disk_left result) c
         → IfSome (R.remaining input.old) (λ bytes. LeavesLog rebases bytes (text_in log) c (W.contents output.old) (W.contents output.new)) }
+    ensures clean { IsTrue (D.Disk.is_clean (disk_left result)) → IsHonest log }
 {
     let mut server: KeptServer<N> = KeptServer::new(alloc, table);
     serve_by(alloc, &mut server, log, rebases, input, output)
@@ -171,6 +173,7 @@ pub fn serve_log<R: Read, W: Write, D: Disk>(
     // Whatever the call answers, a crash leaves what was kept, and who was answered is there.
     ensures crash { IsTrue (D.Disk.is_clean (disk_left result)) → (c : List ℕ) → D.Disk.may_leave (disk_left result) c
         → IfSome (R.remaining input.old) (λ bytes. LeavesLog rebases bytes (text_in log) c (W.contents output.old) (W.contents output.new)) }
+    ensures clean { IsTrue (D.Disk.is_clean (disk_left result)) → IsHonest log }
 {
     let table = match NewTable::new(alloc) {
         Ok(table) => table,
