@@ -10,20 +10,22 @@ use Rattle.snap_replay.specs.Replayed.{HasReplayed, HasRunJobs, HasServed}
 use Rattle.snap_replay.specs.Words.{IsAsked}
 use Rattle.snap_replay.specs.declared.Ended.{Ended}
 use Rattle.snap_replay.specs.declared.Task.{Task}
-use Rattle.snap_replay.specs.declared.Task.TheVariants.{Run, Serve, Writers}
+use Rattle.snap_replay.specs.declared.Task.TheVariants.{Run, Serve, Writers, Check, Checkpoint}
 use Rattle.snap_replay.specs.declared.logged.LogStop.{LogStop}
 
 -- nothing of these bytes was read, and nothing was written
 abbrev pub IsUntouched : List ℕ → Option (List ℕ) → Option (List ℕ) → Option (List ℕ) → Type 0
 IsUntouched bytes left before after = (left ≡ Some bytes) × (after ≡ before)
 
--- The task was done over these bytes, and gave this status: that of the end of the script, of the server or of the jobs. Without a task it is that of bad words. Of a server over a log no more is said.
+-- The task was done over these bytes, and gave this status: that of the end of the script, of the server or of the jobs. Without a task it is that of bad words. Of a server over a log, of a check and of a checkpoint no more is said.
 abbrev pub HasDone : Option Task → List ℕ → Option (List ℕ) → ℕ → Option (List ℕ) → Option (List ℕ) → Type 0
 HasDone None bytes left status before after = (status ≡ 2) × IsUntouched bytes left before after
 HasDone (Some (Run options)) bytes left status before after = (ended : Result (Unit {0}) Ended) × (status ≡ exit_of ended) × HasReplayed options bytes left ended before after
 HasDone (Some (Serve None rebases)) bytes left status before after = (ended : Result (Unit {0}) Ended) × (status ≡ exit_of ended) × HasServed bytes left ended before after
 HasDone (Some (Serve (Some log) rebases)) bytes left status before after = (served : Result (Unit {0}) LogStop) × (status ≡ log_exit_of served)
 HasDone (Some (Writers options)) bytes left status before after = (ended : Result (Unit {0}) Ended) × (status ≡ exit_of ended) × HasRunJobs options bytes left ended before after
+HasDone (Some (Check file json)) bytes left status before after = (checked : Result (Unit {0}) LogStop) × (status ≡ log_exit_of checked)
+HasDone (Some (Checkpoint file)) bytes left status before after = (made : Result (Unit {0}) LogStop) × (status ≡ log_exit_of made)
 
 -- the status of words that are refused for this: 4 for want of memory, 2 for bad words; of a call for help or for the version 0, or 3 where its text can't be written
 abbrev pub IsRefusalStatus : ErrorKind → ℕ → Type 0

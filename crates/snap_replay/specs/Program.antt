@@ -21,6 +21,10 @@ valued name = record (new_rule name) { long = Some name; action = Some Set; valu
 abbrev pub wanted_number : Text → Rule
 wanted_number name = record (valued name) { required = true; parser = Some (parser.Signed (pos 1) (pos 16)) }
 
+-- a word that is no option, without which the command isn't taken
+abbrev pub wanted_place : Text → Rule
+wanted_place name = record (new_rule name) { required = true; action = Some Set; value_names = 1 }
+
 -- an option that has to stand beside another
 abbrev pub beside_another : Rule → Rule
 beside_another rule = record rule { is_free = false }
@@ -41,11 +45,19 @@ serve_shape = command_shape (codes "serve") (valued (codes "log") ∷ beside_ano
 abbrev pub writers_shape : Shape
 writers_shape = command_shape (codes "writers") (wanted_number (codes "workers") ∷ flag (codes "ends") ∷ flag (codes "strict") ∷ [])
 
+-- `check FILE [--json]`
+abbrev pub check_shape : Shape
+check_shape = command_shape (codes "check") (wanted_place (codes "file") ∷ flag (codes "json") ∷ [])
+
+-- `checkpoint FILE`
+abbrev pub checkpoint_shape : Shape
+checkpoint_shape = command_shape (codes "checkpoint") (wanted_place (codes "file") ∷ [])
+
 -- one of these commands has to be named
 abbrev pub program : App
 program = record {
   top = record (new_shape (codes "snap_replay")) { is_leaf = false; has_version = true; subcommand_required = true };
-  subs = run_shape ∷ serve_shape ∷ writers_shape ∷ [];
+  subs = run_shape ∷ serve_shape ∷ writers_shape ∷ check_shape ∷ checkpoint_shape ∷ [];
 }
 
 -- the command that the words of a command line name, the program's name first, and what clap finds of its options

@@ -9,7 +9,7 @@ use Rattle.snap_script.specs.declared.unknown.FieldRule.TheVariants.{Any, Known}
 use Rattle.snap_session.specs.declared.run.RunOptions.{RunOptions}
 use Rattle.snap_jobs.specs.declared.run.JobOptions.{JobOptions}
 use Rattle.snap_replay.specs.declared.Task.{Task}
-use Rattle.snap_replay.specs.declared.Task.TheVariants.{Run, Serve, Writers}
+use Rattle.snap_replay.specs.declared.Task.TheVariants.{Run, Serve, Writers, Check, Checkpoint}
 
 -- the option of this name is given: what was found of it reads "true"
 abbrev pub is_given : List ℕ → List Row → Bool
@@ -44,17 +44,39 @@ IsServer rows None = ⊥
 IsServer rows (Some (Run options)) = ⊥
 IsServer rows (Some (Serve name rebases)) = (option_map (λ n. n.now) name ≡ first_of (codes "log") rows) × (rebases ≡ is_given (codes "rebase") rows)
 IsServer rows (Some (Writers options)) = ⊥
+IsServer rows (Some (Check file json)) = ⊥
+IsServer rows (Some (Checkpoint file)) = ⊥
 
--- by whether the command is `run`, `serve` or `writers`, and what was found of its options: a run, a server, jobs by some workers, or nothing
-abbrev pub IsAskedAs : Bool → Bool → Bool → List Row → Option Task → Type 0
-IsAskedAs true is_serve is_writers rows task = task ≡ Some (Run (run_options_of rows))
-IsAskedAs false true is_writers rows task = IsServer rows task
-IsAskedAs false false true rows task = (number : Option ℕ) × IsNumberOf (one_of (codes "workers") rows) number × (task ≡ writers_of number rows)
-IsAskedAs false false false rows task = task ≡ None
+-- a check of the file that is named, by `--json` told as JSON, and nothing where none is named
+abbrev pub IsCheckOf : List Row → Option Task → Type 0
+IsCheckOf rows None = first_of (codes "file") rows ≡ None
+IsCheckOf rows (Some (Run options)) = ⊥
+IsCheckOf rows (Some (Serve name rebases)) = ⊥
+IsCheckOf rows (Some (Writers options)) = ⊥
+IsCheckOf rows (Some (Checkpoint file)) = ⊥
+IsCheckOf rows (Some (Check file json)) = (first_of (codes "file") rows ≡ Some file.now) × (json ≡ is_given (codes "json") rows)
+
+-- a checkpoint of the log that is named, and nothing where none is named
+abbrev pub IsCheckpointOf : List Row → Option Task → Type 0
+IsCheckpointOf rows None = first_of (codes "file") rows ≡ None
+IsCheckpointOf rows (Some (Run options)) = ⊥
+IsCheckpointOf rows (Some (Serve name rebases)) = ⊥
+IsCheckpointOf rows (Some (Writers options)) = ⊥
+IsCheckpointOf rows (Some (Check file json)) = ⊥
+IsCheckpointOf rows (Some (Checkpoint file)) = first_of (codes "file") rows ≡ Some file.now
+
+-- by whether the command is `run`, `serve`, `writers`, `check` or `checkpoint`, and what was found of its options: a run, a server, jobs by some workers, a check, a checkpoint, or nothing
+abbrev pub IsAskedAs : Bool → Bool → Bool → Bool → Bool → List Row → Option Task → Type 0
+IsAskedAs true is_serve is_writers is_check is_checkpoint rows task = task ≡ Some (Run (run_options_of rows))
+IsAskedAs false true is_writers is_check is_checkpoint rows task = IsServer rows task
+IsAskedAs false false true is_check is_checkpoint rows task = (number : Option ℕ) × IsNumberOf (one_of (codes "workers") rows) number × (task ≡ writers_of number rows)
+IsAskedAs false false false true is_checkpoint rows task = IsCheckOf rows task
+IsAskedAs false false false false true rows task = IsCheckpointOf rows task
+IsAskedAs false false false false false rows task = task ≡ None
 
 -- what the command of this name asks for
 abbrev pub IsAskedBy : List ℕ → List Row → Option Task → Type 0
-IsAskedBy name rows task = IsAskedAs (bytes_eq name (codes "run")) (bytes_eq name (codes "serve")) (bytes_eq name (codes "writers")) rows task
+IsAskedBy name rows task = IsAskedAs (bytes_eq name (codes "run")) (bytes_eq name (codes "serve")) (bytes_eq name (codes "writers")) (bytes_eq name (codes "check")) (bytes_eq name (codes "checkpoint")) rows task
 
 -- the same of the command that was found, if one was
 abbrev pub IsAsked : Option (Text × List Row) → Option Task → Type 0

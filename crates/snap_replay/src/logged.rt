@@ -1,13 +1,15 @@
 // `serve` over a log in a file.
 ghost use Rattle.std.specs.Prelude.{◌≡◌, IfSome, OnOk};
-ghost use Rattle.snap_replay.specs.Logged.{HasServedOver, log_status_of};
+ghost use Rattle.snap_replay.specs.Logged.{HasServedOver, HasServedOverPair, log_status_of};
 
-use snap_durable::{Ended, ReplayError, Unserved, serve_log};
+use snap_call::Refusal;
+use snap_durable::{Ended, ReplayError, ServedPair, Unserved, serve_log, serve_pair};
 use snap_lines::Stop;
 use snap_log::{Log, OpenError};
 use snap_marks::{Difference, Differs, Sums};
+use snap_pair::Pair;
 use sqlite_disk::{Disk, Files};
-use sqlite_std_file::{OpenError as FileError, Wary, open};
+use sqlite_std_file::{FileFrom, OpenError as FileError, Wary, open};
 use std::alloc::Global;
 use std::io::{Read, Write};
 use std::{fmt, io};
@@ -29,6 +31,14 @@ pub(crate) enum LogStop {
     Unknown(io::Error),
     // A mark of the log doesn't agree with its lines or with their answers, or the last line is no mark.
     Differs(Sums),
+    // The last line of a saved store is missing.
+    NoEnd,
+    // The log's lines open no store.
+    NoStore,
+    // Its store can't be rolled to as many entries.
+    NoRoll(Refusal),
+    // A line of its store would have more than 16 MiB.
+    TooLong,
 }
 
 impl LogStop {
@@ -39,6 +49,7 @@ impl LogStop {
         match self {
             LogStop::Lines(stop) => stop.status(),
             LogStop::WantOfMemory => 4,
+            LogStop::NoEnd | LogStop::NoStore | LogStop::NoRoll(_) | LogStop::TooLong => 5,
             LogStop::Busy => 6,
             LogStop::Io(_) | LogStop::Refused(_) => 7,
             LogStop::Unknown(_) => 8,
@@ -89,16 +100,36 @@ impl fmt::Display for LogStop {
                 write_difference(f, sums)?;
                 f.write_str("; --rebase takes them as they are")
             }
+            LogStop::NoEnd => f.write_str("the last line of the saved store is missing"),
+            LogStop::NoStore => f.write_str("the log has no store"),
+            LogStop::NoRoll(why) => write!(f, "no next round begins: {why}"),
+            LogStop::TooLong => f.write_str("a line of the store would have more than 16 MiB"),
         }
     }
 }
 
 // A call of the file failed, or memory was refused on its way.
-fn file_stop(error: io::Error) -> LogStop {
+pub(crate) fn file_stop(error: io::Error) -> LogStop {
     if error.kind() == io::ErrorKind::OutOfMemory {
         LogStop::WantOfMemory
     } else {
         LogStop::Io(error)
+    }
+}
+
+// Why not all lines were answered.
+fn unserved<D: Disk + Drop>(why: Unserved<D>) -> LogStop {
+    match why {
+        Unserved::Replay(_, error) => match error {
+            ReplayError::Io(error) => file_stop(error),
+            ReplayError::Stopped(stop) => LogStop::Lines(stop),
+        },
+        Unserved::Differs(_, sums) => LogStop::Differs(sums),
+        Unserved::NotRebased(_, error) => file_stop(error),
+        Unserved::Ended(ended) => match ended {
+            Ended::Stopped(_, stop) => LogStop::Lines(stop),
+            Ended::Unknown(_, error) => LogStop::Unknown(error),
+        },
     }
 }
 
@@ -114,20 +145,94 @@ fn lines_over<D: Disk + Drop, R: Read, W: Write>(
 {
     match serve_log(alloc, log, rebases, input, output) {
         Ok(_) => Ok(()),
-        Err(Unserved::Replay(_, error)) => match error {
-            ReplayError::Io(error) => Err(file_stop(error)),
-            ReplayError::Stopped(stop) => Err(LogStop::Lines(stop)),
-        },
-        Err(Unserved::Differs(_, sums)) => Err(LogStop::Differs(sums)),
-        Err(Unserved::NotRebased(_, error)) => Err(file_stop(error)),
-        Err(Unserved::Ended(ended)) => match ended {
-            Ended::Stopped(_, stop) => Err(LogStop::Lines(stop)),
-            Ended::Unknown(_, error) => Err(LogStop::Unknown(error)),
-        },
+        Err(why) => Err(unserved(why)),
     }
 }
 
-// Serves the lines of an input over the log in a file. Where its marks differ, it does so only if it rebases.
+// Serves them over a log in two files.
+fn lines_over_pair<D: Disk + Drop, R: Read, W: Write>(
+    alloc: Global,
+    pair: Pair<D>,
+    rebases: bool,
+    input: &mut R,
+    output: &mut W,
+) -> Result<(), LogStop>
+    ensures { OnOk result (IfSome (R.remaining input.old) (λ bytes. HasServedOverPair rebases bytes pair (W.contents output.old) (W.contents output.new))) }
+{
+    let ServedPair { served, .. } = serve_pair(alloc, pair, rebases, input, output);
+    match served {
+        Ok(_) => Ok(()),
+        Err(why) => Err(unserved(why)),
+    }
+}
+
+// Why the files were not opened.
+fn files_stop(error: FileError) -> LogStop {
+    match error {
+        FileError::Busy => LogStop::Busy,
+        FileError::OutOfMemory => LogStop::WantOfMemory,
+        FileError::HotJournal => LogStop::Refused(OpenError::NotALog),
+        FileError::Io(error) => file_stop(error),
+    }
+}
+
+// Why a file was not opened as a log.
+fn unopened(why: OpenError) -> LogStop {
+    match why {
+        OpenError::Io(error) => file_stop(error),
+        OpenError::NotALog | OpenError::Damaged { .. } => LogStop::Refused(why),
+    }
+}
+
+// The log in a file and in the one beside it, which are made where there are none.
+pub(crate) fn open_pair(rt: &HostRuntime, path: &str) -> Result<Pair<FileFrom<Wary>>, LogStop> {
+    let Files { log, db } = match open(rt, path, Wary) {
+        Ok(files) => files,
+        Err(error) => return Err(files_stop(error)),
+    };
+    match Pair::open(db, log) {
+        Ok(pair) => Ok(pair),
+        Err(failed) => Err(unopened(failed.why)),
+    }
+}
+
+// A log in a file, or also in the one beside it.
+#[derive(Drop)]
+enum Opened {
+    // The other file has no byte, and so no line.
+    Alone(Log<FileFrom<Wary>>),
+    Pair(Pair<FileFrom<Wary>>),
+}
+
+// The log in a file, which is made where there is none, also in the one beside it where that has a byte.
+fn open_either(rt: &HostRuntime, path: &str) -> Result<Opened, LogStop> {
+    let Files { mut log, db } = match open(rt, path, Wary) {
+        Ok(files) => files,
+        Err(error) => return Err(files_stop(error)),
+    };
+    match log.len() {
+        Ok(0) => match Log::open(db) {
+            Ok(log) => Ok(Opened::Alone(log)),
+            Err(failed) => Err(unopened(failed.why)),
+        },
+        Ok(_) => match Pair::open(db, log) {
+            Ok(pair) => Ok(Opened::Pair(pair)),
+            Err(failed) => Err(unopened(failed.why)),
+        },
+        Err(error) => Err(file_stop(error)),
+    }
+}
+
+// The log that counts.
+pub(crate) fn open_log(rt: &HostRuntime, path: &str) -> Result<Log<FileFrom<Wary>>, LogStop> {
+    match open_either(rt, path)? {
+        Opened::Alone(log) => Ok(log),
+        Opened::Pair(pair) => Ok(pair.split().counting),
+    }
+}
+
+// Serves the lines of an input over the log in a file, and in the one beside it where that has a byte. Where its marks
+// differ, it does so only if it rebases.
 pub(crate) fn serve_file<R: Read, W: Write>(
     rt: &HostRuntime,
     path: &str,
@@ -135,20 +240,8 @@ pub(crate) fn serve_file<R: Read, W: Write>(
     input: &mut R,
     output: &mut W,
 ) -> Result<(), LogStop> {
-    let Files { log: _, db } = match open(rt, path, Wary) {
-        Ok(files) => files,
-        Err(FileError::Busy) => return Err(LogStop::Busy),
-        Err(FileError::OutOfMemory) => {
-            return Err(LogStop::WantOfMemory);
-        }
-        Err(FileError::HotJournal) => return Err(LogStop::Refused(OpenError::NotALog)),
-        Err(FileError::Io(error)) => return Err(file_stop(error)),
-    };
-    match Log::open(db) {
-        Ok(log) => lines_over(rt.alloc(), log, rebases, input, output),
-        Err(failed) => match failed.why {
-            OpenError::Io(error) => Err(file_stop(error)),
-            why => Err(LogStop::Refused(why)),
-        },
+    match open_either(rt, path)? {
+        Opened::Alone(log) => lines_over(rt.alloc(), log, rebases, input, output),
+        Opened::Pair(pair) => lines_over_pair(rt.alloc(), pair, rebases, input, output),
     }
 }

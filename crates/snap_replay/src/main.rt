@@ -1,10 +1,14 @@
 //! The program `snap_replay`: `snap_replay run` replays a script of a store of snapshots, `snap_replay serve` answers
 //! each line of a client, and `snap_replay writers` runs jobs on a store, from standard input to standard output.
+//! `snap_replay check` tells whether a log or a saved store is whole, and what it has, and `snap_replay checkpoint` makes
+//! a log short.
 //!
 //! What is read and written is `replay`'s and `serve`'s, of the crate `snap_session`, and `write_jobs`'s, of `snap_jobs`;
 //! here are the words of the command line, the standard streams and the status.
 #![tactic(auto)]
 
+mod check;
+mod checkpoint;
 mod logged;
 
 ghost use Rattle.clap.specs.Words.{app_of, found_of, kind_of, one_of, rows_of, subcommand_rows_of};
@@ -12,13 +16,15 @@ ghost use Rattle.clap.specs.declared.error.kind.ErrorKind.TheVariants.{OutOfMemo
 ghost use Rattle.snap_replay.specs.Done.{HasDone, HasActed, IsRefusalStatus};
 ghost use Rattle.snap_replay.specs.Exit.{exit_of, status_of_end};
 ghost use Rattle.snap_replay.specs.Logged.{log_exit_of};
-ghost use Rattle.snap_replay.specs.Program.{IsDeclared, IsOption, beside_another, flag, command_found, are_words_taken, program, run_shape, serve_shape, valued, wanted_number, writers_shape};
+ghost use Rattle.snap_replay.specs.Program.{IsDeclared, IsOption, beside_another, check_shape, checkpoint_shape, flag, command_found, are_words_taken, program, run_shape, serve_shape, valued, wanted_number, wanted_place, writers_shape};
 ghost use Rattle.snap_replay.specs.Replayed.{HasReplayed, HasRunJobs, HasServed};
 ghost use Rattle.snap_replay.specs.Tasks.{IsTask};
 ghost use Rattle.snap_replay.specs.Words.{IsAsked, IsNumberOf, field_rule_of, is_given, run_options_of, writers_of};
 ghost use Rattle.snap_replay.specs.declared.Task.TheVariants.{Writers};
 ghost use Rattle.std.specs.Prelude.{◌≡◌, ◌≤◌, IfErr, IfOk, IfSome, Option, codes, map, option_map, string_bytes, true, ℕ};
 
+use crate::check::check_file;
+use crate::checkpoint::checkpoint_file;
 use crate::logged::{LogStop, serve_file};
 use clap::error::ErrorKind as WordsErrorKind;
 use clap::{Arg, ArgAction, ArgMatches, Command, Error, value_parser};
@@ -165,6 +171,10 @@ enum Task<'a> {
     Serve { log: Option<&'a str>, rebases: bool },
     // Run the jobs on standard input by 1 to 16 workers.
     Writers { options: JobOptions },
+    // Check the log or the saved store in a file, and tell of it by JSON or by lines for people.
+    Check { file: &'a str, json: bool },
+    // Let the lines of a log's store take the place of the log's own.
+    Checkpoint { file: &'a str },
 }
 
 // The option that says how many workers there are.
@@ -184,6 +194,12 @@ const REBASE: &str = "rebase";
 
 // The option of `run` by which it ends at the first refusal.
 const STOP: &str = "stop";
+
+// The file that `check` or `checkpoint` is of.
+const FILE: &str = "file";
+
+// The option of `check` by which JSON is written.
+const JSON: &str = "json";
 
 // What goes in and out of `run`. The last line works as it stands.
 const RUN_HELP: &str =
@@ -215,6 +231,28 @@ Status: as of run; 4 also after the answer where jobs were refused for want of m
 the store could not be closed.
 Example:
   printf '%s\n' '{"do":"open","root":"/r","namespaces":[["a",9,9]]}' '{"ns":"a","key":"k","parent":"","ops":[],"end":"discard"}' | snap_replay writers --workers 2"#;
+
+// The same for `check`.
+const CHECK_HELP: &str =
+    r#"Carries out the lines of a log, as serve --log keeps it, or of a saved store, of which each is a line that save
+has answered. Nothing of FILE is changed; of a log FILE-wal, which stays empty, is made where it is missing.
+Out: that it is whole, and what each namespace is charged, its limit, and how many snapshots and leases it
+has; with --json an object. Standard error has why it isn't whole.
+Status: 0 whole, 2 bad words or a line that is no command, 3 a read or a write failed, 4 want of memory, 5 a line
+of a saved store is refused or the last one is missing, 6 where another process has the log, 7 where it is none,
+is damaged or can't be read, 9 where its lines aren't those that were written or have other answers now.
+Example:
+  snap_replay check store.log"#;
+
+// The same for `checkpoint`.
+const CHECKPOINT_HELP: &str =
+    r#"Carries out a log, as serve --log keeps it, and lets the lines of its store take the place of all others, as one:
+whatever happens, FILE or FILE-wal beside it has these or those. Its next round begins, as by `roll`.
+Status: 0 done, 2 bad words or a line that is no command, 3 a read failed, 4 want of memory, 5 the log has no
+store or it can't be rolled, 6 where another process has the log, 7 where it is none, is damaged, can't be read or a
+write failed, 8 where a sync failed, 9 where its lines aren't those that were written or have other answers now.
+Example:
+  snap_replay checkpoint store.log"#;
 
 // An option that is given or not.
 fn flag<'a>(alloc: Global, name: &'a str, help: &'a str) -> Arg<'a>
@@ -324,6 +362,43 @@ fn serve_command<'a>(alloc: Global) -> Result<Command<'a>, Error>
     Ok(serve)
 }
 
+// The file that has to be named.
+fn file_argument<'a>(alloc: Global) -> Arg<'a>
+    ensures { IsOption (wanted_place (codes "file")) result }
+{
+    Arg::new(alloc, FILE)
+        .value_name("FILE")
+        .help("A log or a saved store")
+        .required(true)
+        .action(ArgAction::Set)
+}
+
+// The command `check`.
+fn check_command<'a>(alloc: Global) -> Result<Command<'a>, Error>
+    ensures declared { IfOk result (IsDeclared check_shape) }
+    ensures refused { IfErr result (λ e. kind_of e ≡ OutOfMemory) }
+{
+    let json = flag(alloc, JSON, "Writes an object of JSON");
+    let check = Command::new(alloc, "check")
+        .about("Tells whether a log or a saved store is whole, and what it has")
+        .after_help(CHECK_HELP)
+        .arg(file_argument(alloc))?
+        .arg(json)?;
+    Ok(check)
+}
+
+// The command `checkpoint`.
+fn checkpoint_command<'a>(alloc: Global) -> Result<Command<'a>, Error>
+    ensures declared { IfOk result (IsDeclared checkpoint_shape) }
+    ensures refused { IfErr result (λ e. kind_of e ≡ OutOfMemory) }
+{
+    let checkpoint = Command::new(alloc, "checkpoint")
+        .about("Makes a log short: lets the lines of its store take the place of all others")
+        .after_help(CHECKPOINT_HELP)
+        .arg(file_argument(alloc))?;
+    Ok(checkpoint)
+}
+
 // The program's commands.
 fn command<'a>(alloc: Global) -> Result<Command<'a>, Error>
     ensures declared { IfOk result (λ c. app_of c ≡ program) }
@@ -335,7 +410,9 @@ fn command<'a>(alloc: Global) -> Result<Command<'a>, Error>
         .subcommand_required(true)
         .subcommand(run_command(alloc)?)?
         .subcommand(serve_command(alloc)?)?
-        .subcommand(writers_command(alloc)?)?;
+        .subcommand(writers_command(alloc)?)?
+        .subcommand(check_command(alloc)?)?
+        .subcommand(checkpoint_command(alloc)?)?;
     Ok(program)
 }
 
@@ -409,6 +486,17 @@ fn chosen<'a>(matches: &'a ArgMatches<'_>) -> Option<Task<'a>>
             let options = job_options(own)?;
             Some(Task::Writers { options })
         }
+        "check" => {
+            let file = own.get_str(FILE)?;
+            Some(Task::Check {
+                file,
+                json: is_given(JSON, own),
+            })
+        }
+        "checkpoint" => {
+            let file = own.get_str(FILE)?;
+            Some(Task::Checkpoint { file })
+        }
         _ => None,
     }
 }
@@ -438,6 +526,8 @@ fn done<T: Threads + Wait + Sync + Eprint + AllocGlobal, R: Read, W: Write>(
         Some(Task::Writers { options }) => {
             status(rt, jobs_from(rt, alloc, input, output, options))
         }
+        Some(Task::Check { file, json }) => log_status(rt, check_file(files, file, json, output)),
+        Some(Task::Checkpoint { file }) => log_status(rt, checkpoint_file(files, file)),
         None => {
             let _ = rt.eprintln("error: no command");
             BAD_WORDS

@@ -2,8 +2,8 @@ use Rattle.std.proofs.Common.{None, Some, codes, ◌∙◌}
 use Rattle.clap.proofs.WalkLemmas.{first_value-rows}
 use Rattle.clap.specs.Words.{found_of, rows_of, subcommand_rows_of}
 use Rattle.snap_replay.specs.Words.{IsAsked}
-use Rattle.snap_replay.specs.declared.Task.TheVariants.{Run, Serve, Writers}
-use Rattle.snap_replay.proofs.Asking.{asked_task, asks_none, asks_run, asks_serve, asks_writers, found_is}
+use Rattle.snap_replay.specs.declared.Task.TheVariants.{Run, Serve, Writers, Check, Checkpoint}
+use Rattle.snap_replay.proofs.Asking.{asked_task, asks_check, asks_checkpoint, asks_none, asks_run, asks_serve, asks_writers, file_none, file_some, found_is}
 use Rattle.snap_replay.proofs.chosen.Goals as goal
 
 pub returns-in-run : goal.returns-in-run
@@ -27,7 +27,7 @@ pub returns-in_default : goal.returns-in_default
 returns-in_default c =
     let name = c.in_ok-name.name.now in
     let rows = rows_of (found_of c.in_ok-name.own.now) in
-    let asked : IsAsked (subcommand_rows_of c.args.matches.now) None = found_is c.args.matches.now name rows None c.in_ok-name.ensures.name c.in_ok-name.ensures.rows (asks_none name rows c.in_default.not-run c.in_default.not-serve c.in_default.not-writers) in
+    let asked : IsAsked (subcommand_rows_of c.args.matches.now) None = found_is c.args.matches.now name rows None c.in_ok-name.ensures.name c.in_ok-name.ensures.rows (asks_none name rows c.in_default.not-run c.in_default.not-serve c.in_default.not-writers c.in_default.not-check c.in_default.not-checkpoint) in
     record { asked = asked; task = asked_task (subcommand_rows_of c.args.matches.now) None asked }
 
 pub returns-in_err-options-in-writers : goal.returns-in_err-options-in-writers
@@ -45,4 +45,38 @@ returns-in_ok-options-in-writers c =
     let task = Some (Writers c.in_ok-options-in-writers.options) in
     let h = c.in_ok-options-in-writers.ensures in
     let asked : IsAsked (subcommand_rows_of c.args.matches.now) task = found_is c.args.matches.now name rows task c.in_ok-name.ensures.name c.in_ok-name.ensures.rows (asks_writers name rows task c.in-writers.is (h.0, h.1.0, h.1.1)) in
+    record { asked = asked; task = asked_task (subcommand_rows_of c.args.matches.now) task asked }
+
+pub returns-in_err-file-in-check : goal.returns-in_err-file-in-check
+returns-in_err-file-in-check c =
+    let name = c.in_ok-name.name.now in
+    let rows = rows_of (found_of c.in_ok-name.own.now) in
+    let none = file_none c.get_str-in-check.result _ (c.get_str-in-check.ensures ∙ first_value-rows (found_of c.in_ok-name.own.now) (codes "file")) c.in_err-file-in-check.was in
+    let asked : IsAsked (subcommand_rows_of c.args.matches.now) None = found_is c.args.matches.now name rows None c.in_ok-name.ensures.name c.in_ok-name.ensures.rows (asks_check name rows None c.in-check.is none) in
+    record { asked = rw c.from_residual-in_err-file-in-check.ensures asked; task = rw c.from_residual-in_err-file-in-check.ensures tt }
+
+pub returns-in_ok-file-in-check : goal.returns-in_ok-file-in-check
+returns-in_ok-file-in-check c =
+    let name = c.in_ok-name.name.now in
+    let rows = rows_of (found_of c.in_ok-name.own.now) in
+    let task = Some (Check c.in_ok-file-in-check.file c.is_given-in-check.result) in
+    let some = file_some c.get_str-in-check.result c.in_ok-file-in-check.file _ (c.get_str-in-check.ensures ∙ first_value-rows (found_of c.in_ok-name.own.now) (codes "file")) c.in_ok-file-in-check.was in
+    let asked : IsAsked (subcommand_rows_of c.args.matches.now) task = found_is c.args.matches.now name rows task c.in_ok-name.ensures.name c.in_ok-name.ensures.rows (asks_check name rows task c.in-check.is (some, c.is_given-in-check.ensures)) in
+    record { asked = asked; task = asked_task (subcommand_rows_of c.args.matches.now) task asked }
+
+pub returns-in_err-file-in-checkpoint : goal.returns-in_err-file-in-checkpoint
+returns-in_err-file-in-checkpoint c =
+    let name = c.in_ok-name.name.now in
+    let rows = rows_of (found_of c.in_ok-name.own.now) in
+    let none = file_none c.get_str-in-checkpoint.result _ (c.get_str-in-checkpoint.ensures ∙ first_value-rows (found_of c.in_ok-name.own.now) (codes "file")) c.in_err-file-in-checkpoint.was in
+    let asked : IsAsked (subcommand_rows_of c.args.matches.now) None = found_is c.args.matches.now name rows None c.in_ok-name.ensures.name c.in_ok-name.ensures.rows (asks_checkpoint name rows None c.in-checkpoint.is none) in
+    record { asked = rw c.from_residual-in_err-file-in-checkpoint.ensures asked; task = rw c.from_residual-in_err-file-in-checkpoint.ensures tt }
+
+pub returns-in_ok-file-in-checkpoint : goal.returns-in_ok-file-in-checkpoint
+returns-in_ok-file-in-checkpoint c =
+    let name = c.in_ok-name.name.now in
+    let rows = rows_of (found_of c.in_ok-name.own.now) in
+    let task = Some (Checkpoint c.in_ok-file-in-checkpoint.file) in
+    let some = file_some c.get_str-in-checkpoint.result c.in_ok-file-in-checkpoint.file _ (c.get_str-in-checkpoint.ensures ∙ first_value-rows (found_of c.in_ok-name.own.now) (codes "file")) c.in_ok-file-in-checkpoint.was in
+    let asked : IsAsked (subcommand_rows_of c.args.matches.now) task = found_is c.args.matches.now name rows task c.in_ok-name.ensures.name c.in_ok-name.ensures.rows (asks_checkpoint name rows task c.in-checkpoint.is some) in
     record { asked = asked; task = asked_task (subcommand_rows_of c.args.matches.now) task asked }
