@@ -10,7 +10,7 @@ use Rattle.snap_record.specs.declared.record.Record.{Record}
 use Rattle.snap_call.specs.declared.state.State.{State}
 use Rattle.snap_call.specs.declared.config.Namespace.{Namespace}
 use Rattle.snap_call.specs.Forms.{is_key, is_limit, is_namespace}
-use Rattle.snap_call.specs.Records.{charge_of, committed_at, has_children, has_records, is_active, record_at}
+use Rattle.snap_call.specs.Records.{charge_of, committed_at, has_children, has_records, is_active, record_at, unlabelled}
 use Rattle.snap_call.specs.Reached.{swept as swept_records, swept_keys}
 use Rattle.snap_call.specs.State.{is_taken, is_taken_at, most_namespaces, name_at, place_of, shown_layers, with_namespace, without_namespace, with_limit}
 use Rattle.snap_call.specs.Step.{added, counted, leasing, spacing, removed_at, relabelled_at, swept_at}
@@ -23,7 +23,7 @@ abbrev pub changed_state : State → Change → State
 changed_state s Nothing = counted s
 changed_state s (View r) = added s r
 changed_state s (Removal place key) = removed_at s place key
-changed_state s (Labels place key labels) = relabelled_at s place key labels
+changed_state s (Labels place key labels copy) = relabelled_at s place key labels
 changed_state s (Space n) = spacing s (with_namespace n s.namespaces)
 changed_state s (SpaceEnd place) = spacing s (without_namespace place s.namespaces)
 changed_state s (Limit place n) = spacing s (with_limit place n.limit s.namespaces)
@@ -81,11 +81,11 @@ pub record IsSweepAt (s : State) (place : ℕ) (namespace : Bytes) (moment : ℕ
   pub swept : keys ≡ swept_keys s namespace place moment
   pub charged : freed ≡ charge_of place (swept_records s namespace place moment)
 
--- the change can be made: a view can be added, a snapshot can go, labels are well-formed, a namespace can come or go, the limit covers the charge, the name of a lease is well-formed and the namespace has no such lease yet, the lease can be given the name or has it to lose, there is a lease to go, a sweep takes these away
+-- the change can be made: a view can be added, a snapshot can go, labels are well-formed and beside a copy of the snapshot, a namespace can come or go, the limit covers the charge, the name of a lease is well-formed and the namespace has no such lease yet, the lease can be given the name or has it to lose, there is a lease to go, a sweep takes these away
 abbrev pub CanChange : State → Change → Type 0
 CanChange s (View r) = IsNewView s r
 CanChange s (Removal place key) = IsUnused s place key
-CanChange s (Labels place key labels) = are_labels labels ≡ true
+CanChange s (Labels place key labels copy) = (are_labels labels ≡ true) × ((r : Record) → record_at place key s.records ≡ Some r → copy.value ≡ unlabelled r)
 CanChange s (Space n) = IsNewSpace s n
 CanChange s (SpaceEnd place) = IsEmptySpace s place
 CanChange s (Limit place n) = IsLimitFor s place n
@@ -99,7 +99,7 @@ CanChange s change = Unit {0}
 -- the change takes no memory: no record, no namespace, no lease and no name comes, and no record goes
 abbrev pub wants_none : State → Change → Bool
 wants_none s Nothing = true
-wants_none s (Labels place key labels) = true
+wants_none s (Labels place key labels copy) = true
 wants_none s (SpaceEnd place) = true
 wants_none s (Limit place n) = true
 wants_none s (LeaseName namespace lease name) = lease_names s.leases namespace lease name

@@ -5,7 +5,8 @@ ghost use Rattle.std.specs.Option.{option_map_or};
 ghost use Rattle.snap_usage.specs.Counted.{no_usage};
 ghost use Rattle.snap_record.specs.Labels.{are_labels};
 ghost use Rattle.snap_record.specs.Records.{info_of, usage_of};
-ghost use Rattle.snap_call.specs.Records.{is_active, open_count, with_labels};
+ghost use Rattle.snap_call.specs.Records.{is_active, open_count, record_at, unlabelled, with_labels};
+ghost use Rattle.snap_record.specs.declared.record.Record.{Record};
 ghost use Rattle.snap_call.specs.State.{or_empty};
 ghost use Rattle.snap_call.specs.Step.{added, refused, relabelled_at, removed_at, step, update_record, prepare_view, viewed};
 ghost use Rattle.snap_call.specs.Steps.{remove, update};
@@ -18,7 +19,7 @@ ghost use Rattle.snap_accounts.specs.Vacant.{IsSite};
 
 use crate::accounts::Accounts;
 use snap_call::limits::MAX_ID;
-use snap_call::{Call, Chain, Namespace, Refusal, Removed, Reply, is_key};
+use snap_call::{Call, Chain, HeldRecord, Namespace, Refusal, Removed, Reply, is_key, unlabelled};
 use snap_layer::{Layer, Meta, Shared};
 use snap_ledger::StoreName;
 use snap_path::limits::DEFAULT_MODE;
@@ -39,11 +40,12 @@ pub enum Change {
         place: usize,
         key: Text,
     },
-    /// Other labels of the snapshot that has this key in the namespace at this place.
+    /// Other labels of the snapshot that has this key in the namespace at this place, and a copy of it without labels.
     Labels {
         place: usize,
         key: Text,
         labels: Labels,
+        copy: Box<Record>,
     },
     /// One more namespace.
     Space(Namespace),
@@ -146,11 +148,11 @@ fn is_active(snapshot: &Record) -> bool
 }
 
 // What the snapshot that was taken away was charged; 0/0 where there was none.
-fn freed_by(taken: &Option<Record>) -> Usage
+fn freed_by(taken: &Option<HeldRecord>) -> Usage
     ensures { result ≡ option_map_or (λ r. usage_of r.content) taken.now no_usage }
 {
     match taken {
-        Some(snapshot) => snapshot.content.usage(),
+        Some(held) => held.record().content.usage(),
         None => Usage::ZERO,
     }
 }
@@ -285,6 +287,7 @@ impl<N: StoreName> Accounts<N> {
     // The labels of the snapshot after an update, and the reply with its info, or why there are none.
     fn update_at(
         &self,
+        alloc: Global,
         place: usize,
         key: &Text,
         snapshot: &Record,
@@ -292,6 +295,7 @@ impl<N: StoreName> Accounts<N> {
         paths: &[Text],
     ) -> Result<(Reply, Change), AllocError>
         requires own { are_labels snapshot.now.labels ≡ true }
+        requires found { record_at place key.now self.now.records ≡ Some snapshot.now }
         requires entries { self.now.entries < 2 ^ 63 }
         ensures reply { IfOk result (λ p. update_record self.now key.now given.now paths.now place snapshot.now ≡ (changed_state self.now p.1, p.0)) }
         ensures recorded { IfOk result (λ p. IsInEntry p.0) }
@@ -306,12 +310,20 @@ impl<N: StoreName> Accounts<N> {
         };
         let info = info_with(snapshot, &labels, self.state.entries + 1)?;
         let key = key.clone()?;
-        Ok((Reply::Info(info), Change::Labels { place, key, labels }))
+        let copy = unlabelled(alloc, snapshot)?;
+        let change = Change::Labels {
+            place,
+            key,
+            labels,
+            copy,
+        };
+        Ok((Reply::Info(info), change))
     }
 
     // Other labels of a snapshot, or why there are none.
     fn plan_update(
         &self,
+        alloc: Global,
         namespace: &str,
         key: &Text,
         given: &Labels,
@@ -329,7 +341,7 @@ impl<N: StoreName> Accounts<N> {
             return Ok((Reply::Refused(Refusal::NoNamespace), Change::Nothing));
         };
         match self.state.records.record_at(place, key.as_str()) {
-            Some(snapshot) => self.update_at(place, key, snapshot, given, paths),
+            Some(snapshot) => self.update_at(alloc, place, key, snapshot, given, paths),
             None => Ok((Reply::Refused(Refusal::NotFound), Change::Nothing)),
         }
     }
@@ -406,7 +418,7 @@ impl<N: StoreName> Accounts<N> {
                 key,
                 labels,
                 paths,
-            } => self.plan_update(namespace.as_str(), key, labels, paths.as_slice()),
+            } => self.plan_update(alloc, namespace.as_str(), key, labels, paths.as_slice()),
             Call::NamespaceCreate { namespace, limit } => self.plan_namespace(namespace, *limit),
             Call::NamespaceRemove { namespace } => self.plan_namespace_end(namespace.as_str()),
             Call::SetLimit { namespace, limit } => self.plan_limit(namespace, *limit),
@@ -447,7 +459,8 @@ impl<N: StoreName> Accounts<N> {
         ensures open { OnOk result (open_count self.new.records ≡ open_count self.old.records) }
         ensures err { OnErr result (self.new ≡ self.old) }
     {
-        if let Err((no_memory, _)) = self.state.records.insert(snapshot) {
+        let held = self.state.records.hold(snapshot)?;
+        if let Err((no_memory, _)) = self.state.records.insert(held) {
             return Err(no_memory.into());
         }
         self.state.next_id += 1;
@@ -471,14 +484,15 @@ impl<N: StoreName> Accounts<N> {
     }
 
     // The snapshot of the key gets these labels.
-    fn relabel(&mut self, place: usize, key: &str, labels: Labels)
+    fn relabel(&mut self, place: usize, key: &str, labels: Labels, copy: Box<Record>)
+        requires copied { (r : Record) → record_at place key.now self.old.records ≡ Some r → copy.value ≡ unlabelled r }
         requires formed { are_labels labels ≡ true }
         requires entries { self.old.entries < 2 ^ 63 }
         ensures done { self.new ≡ relabelled_at self.old place key.now labels }
         ensures open { open_count self.new.records ≡ open_count self.old.records }
     {
         let number = self.state.entries + 1;
-        self.state.records.relabel(place, key, labels, number);
+        self.state.records.relabel(place, key, labels, number, copy);
         self.state.entries = number;
     }
 
@@ -505,7 +519,12 @@ impl<N: StoreName> Accounts<N> {
             Change::Nothing => self.count_entry(),
             Change::View(snapshot) => self.add_view(snapshot)?,
             Change::Removal { place, key } => self.remove(place, key.as_str(), &mut removed),
-            Change::Labels { place, key, labels } => self.relabel(place, key.as_str(), labels),
+            Change::Labels {
+                place,
+                key,
+                labels,
+                copy,
+            } => self.relabel(place, key.as_str(), labels, copy),
             Change::Space(namespace) => self.add_namespace(namespace)?,
             Change::SpaceEnd { place } => self.end_namespace(place),
             Change::Limit { place, namespace } => self.limit(place, namespace),

@@ -175,7 +175,8 @@ impl<N: StoreName> Accounts<N> {
         let Vacancy { place, slot } = vacancy;
         let id = added.id;
         let after = self.total(place).plus(one());
-        if let Err((no_memory, _)) = self.state.records.insert(added) {
+        let held = self.state.records.hold(added)?;
+        if let Err((no_memory, _)) = self.state.records.insert(held) {
             return Err(no_memory.into());
         }
         self.state.next_id += 1;

@@ -4,4 +4,5 @@ pub mod Commits
 pub mod Viewing
 mod Asking
 pub mod Promises
+pub mod Applying
 mod Saving

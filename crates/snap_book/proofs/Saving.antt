@@ -1,5 +1,5 @@
 -- A saved snapshot that is active, in its writer's hands again.
-use Rattle.std.proofs.Common.{◌≡◌, ℕ, ◌<◌, ◌≤◌, Option, Some, None, subst, arith}
+use Rattle.std.proofs.Common.{◌≡◌, ℕ, ◌<◌, Some, None, subst, arith}
 use Rattle.snap_layer.specs.Tree.{Tree}
 use Rattle.snap_usage.specs.Counted.{Covers, count_of}
 use Rattle.snap_ledger.specs.States.{ShareState}

@@ -1,8 +1,9 @@
 -- What holds of a book whenever no call is under way, and what a recorded call makes of it.
 use Rattle.std.specs.Prelude.{◌≡◌, ℕ, ◌+◌, ◌≤◌, ◌^◌, List, [], ◌∷◌, ◌++◌, Option, None, Some, length, Result, Ok, Err}
 use Rattle.snap_usage.specs.declared.usage.Usage.{Usage}
-use Rattle.snap_record.specs.Labels.{Bytes}
+use Rattle.snap_record.specs.Labels.{Bytes, Label}
 use Rattle.snap_call.specs.declared.call.Call.{Call}
+use Rattle.snap_call.specs.declared.call.Call.TheVariants.{Commit}
 use Rattle.snap_call.specs.declared.call.Given.{Given}
 use Rattle.snap_call.specs.declared.entry.Entry.{Entry}
 use Rattle.snap_call.specs.declared.refusal.Refusal.{Refusal}
@@ -58,6 +59,10 @@ AnsweredBy old new n call given reply = Recorded old new n call given reply
 abbrev pub IsRefusedWith : {X Y : Type 0} → Result X (Refusal × Y) → Refusal → Type 0
 IsRefusedWith (Ok x) why = ⊥
 IsRefusedWith (Err back) why = back.0 ≡ why
+
+-- the call commits the snapshot of this slot and id
+abbrev pub IsCommit : ℕ → ℕ → Call → Type 0
+IsCommit slot id call = (name : Bytes) × (lease : Option Bytes) × (labels : Option (List Label)) × (call ≡ Commit slot id name lease labels)
 
 -- the reply to a commit of this id and count, which was tested
 abbrev pub commit_reply : Result (Unit {0}) Refusal → ℕ → Usage → Reply

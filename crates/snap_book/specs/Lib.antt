@@ -10,3 +10,4 @@ pub mod Files
 pub mod Viewed
 pub mod Wanted
 pub mod Saved
+pub mod Applied

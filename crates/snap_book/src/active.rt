@@ -43,14 +43,20 @@ impl<N: StoreName> Model for Active<N> {
     ghost invariant = { λ a. (a.share.slot < max_slots) × Covers a.share.usage (count_of a.layer) };
 }
 
-/// An active snapshot whose layer does not change any more. It has no `Drop`, as [`Active`].
-pub struct Sealed<N: StoreName> {
+// What a sealed snapshot has but for its share.
+#[derive(Drop)]
+pub(crate) struct SealedParts {
     pub(crate) namespace: usize,
     pub(crate) key: Text,
     pub(crate) lowers: Sequence<Shared>,
     pub(crate) layer: Shared,
-    pub(crate) share: Share<N>,
     pub(crate) discard_room: EntryRoom,
+}
+
+/// An active snapshot whose layer does not change any more. It has no `Drop`, as [`Active`].
+pub struct Sealed<N: StoreName> {
+    pub(crate) share: Share<N>,
+    pub(crate) parts: SealedParts,
 }
 
 impl<N: StoreName> Model for Sealed<N> {
@@ -61,9 +67,9 @@ impl<N: StoreName> Model for Sealed<N> {
 
     ghost Value = { ActiveValue };
 
-    ghost view = { λ a. record { namespace = a.namespace; key = a.key; lowers = a.lowers; layer = a.layer; share = a.share } };
+    ghost view = { λ a. record { namespace = a.parts.namespace; key = a.parts.key; lowers = a.parts.lowers; layer = a.parts.layer; share = a.share } };
 
-    ghost invariant = { λ a. (a.share.slot < max_slots) × Covers a.share.usage (count_of a.layer) };
+    ghost invariant = { λ a. (a.share.slot < max_slots) × Covers a.share.usage (count_of a.parts.layer) };
 }
 
 /// What is left of an open snapshot whose layer is let go: its share, and the room for the entry of its discard. It
@@ -187,14 +193,16 @@ impl<N: StoreName> Active<N> {
             discard_room,
         } = self;
         match Shared::new(layer) {
-            Ok(layer) => Ok(Sealed {
-                namespace,
-                key,
-                lowers,
-                layer,
-                share,
-                discard_room,
-            }),
+            Ok(layer) => {
+                let parts = SealedParts {
+                    namespace,
+                    key,
+                    lowers,
+                    layer,
+                    discard_room,
+                };
+                Ok(Sealed { share, parts })
+            }
             Err((no_memory, layer)) => {
                 let active = Active {
                     alloc,
@@ -216,7 +224,14 @@ impl<N: StoreName> Sealed<N> {
     pub fn namespace(&self) -> usize
         ensures { result ≡ self.now.namespace }
     {
-        self.namespace
+        self.parts.namespace
+    }
+
+    /// The id of its snapshot.
+    pub fn id(&self) -> u32
+        ensures { result ≡ self.now.share.id }
+    {
+        self.share.id()
     }
 
     /// What its slot is charged. It covers the layer's count.
@@ -232,14 +247,14 @@ impl<N: StoreName> Sealed<N> {
     pub fn usage(&self) -> Usage
         ensures { result ≡ count_of self.now.layer }
     {
-        count(self.layer.layer())
+        count(self.parts.layer.layer())
     }
 
     /// Its layer.
     pub fn layer(&self) -> &Layer
         ensures { result.now ≡ self.now.layer }
     {
-        self.layer.layer()
+        self.parts.layer.layer()
     }
 }
 
@@ -264,19 +279,19 @@ impl<N: StoreName> Held<N> {
                 share,
                 discard_room,
             },
-            Held::Sealed(
-                Sealed {
+            Held::Sealed(Sealed { share, parts }) => {
+                let SealedParts {
                     namespace: _,
                     key: _,
                     lowers: _,
                     layer: _,
+                    discard_room,
+                } = parts;
+                Released {
                     share,
                     discard_room,
-                },
-            ) => Released {
-                share,
-                discard_room,
-            },
+                }
+            }
         }
     }
 }

@@ -1,8 +1,8 @@
 // What a snapshot's slot is charged, and its end without a commit.
 ghost use Rattle.std.specs.Prelude.{◌≡◌, ◌≤◌, ◌<◌, ◌+◌, ◌↔◌, length, OnOk, IfErr, IsErrOf};
-ghost use Rattle.snap_usage.specs.Counted.{count_of};
+ghost use Rattle.snap_usage.specs.Counted.{Covers, count_of};
 ghost use Rattle.snap_ledger.specs.States.{Meets};
-ghost use Rattle.snap_call.specs.Records.{charge_at, open_count};
+ghost use Rattle.snap_call.specs.Records.{charge_at, max_slots, open_count};
 ghost use Rattle.snap_call.specs.declared.call.Call.TheVariants as calls;
 ghost use Rattle.snap_call.specs.declared.call.Given.TheVariants.{Nothing, Count};
 ghost use Rattle.snap_call.specs.declared.reply.Reply.TheVariants.{Charged, Trimmed, Discarded};
@@ -16,7 +16,7 @@ use crate::book::Book;
 use crate::journal::{charge_entry, discard_entry, trim_entry};
 use snap_call::limits::MAX_LIMIT;
 use snap_call::{EntryRoom, Refusal, Reply};
-use snap_ledger::StoreName;
+use snap_ledger::{Share, StoreName};
 use snap_merge::FsError;
 use snap_usage::Usage;
 
@@ -74,12 +74,33 @@ impl<N: StoreName> Book<N> {
         ensures same { IfErr result (λ why. active.new ≡ active.old) }
         ensures full { IsErrOf result JournalFull ↔ (self.old.limit ≤ length self.old.journal + open_count self.old.state.records) }
     {
-        self.accounts.meet(&mut active.share);
+        self.charge_share(session, &mut active.share, need, want)
+    }
+
+    // A charge of the slot of a share.
+    pub(crate) fn charge_share(
+        &mut self,
+        session: u64,
+        share: &mut Share<N>,
+        need: Usage,
+        want: Usage,
+    ) -> Result<(), Refusal>
+        requires { share.old.slot < max_slots }
+        ensures met { Meets (charge_at share.old.slot self.old.state.records) share.old }
+        ensures granted { OnOk result (Recorded self.old self.new session (calls.Charge share.old.slot share.old.id need want) Nothing (Charged share.new.usage)) }
+        ensures share { OnOk result (share.new ≡ record share.old { usage = share.new.usage }) }
+        ensures more { OnOk result (Covers share.new.usage share.old.usage) }
+        ensures needed { OnOk result (Covers share.new.usage need) }
+        ensures refused { IfErr result (λ why. RefusedBy self.old self.new session (calls.Charge share.old.slot share.old.id need want) Nothing why) }
+        ensures same { IfErr result (λ why. share.new ≡ share.old) }
+        ensures full { IsErrOf result JournalFull ↔ (self.old.limit ≤ length self.old.journal + open_count self.old.state.records) }
+    {
+        self.accounts.meet(share);
         self.journal.admit(self.accounts.open_slots(), 1)?;
         let room = EntryRoom::new(self.alloc)?;
-        let slot = active.share.slot();
-        let id = active.share.id();
-        match self.accounts.charge(&mut active.share, need, want) {
+        let slot = share.slot();
+        let id = share.id();
+        match self.accounts.charge(share, need, want) {
             Ok(now) => {
                 let copy = charge_entry(session, slot, id, need, want, Reply::Charged { now });
                 let entry = charge_entry(session, slot, id, need, want, Reply::Charged { now });

@@ -96,7 +96,7 @@ impl<N: StoreName> Sealed<N> {
     pub fn stack(&self) -> Stack<'_>
         ensures { result ≡ self.now.layer ∷ self.now.lowers }
     {
-        Stack::over(self.layer.layer(), self.lowers.as_slice())
+        Stack::over(self.parts.layer.layer(), self.parts.lowers.as_slice())
     }
 }
 

@@ -72,9 +72,12 @@ impl Opening {
     }
 }
 
+// How many entries of earlier rounds go with each new one.
+const GOING: usize = 4;
+
 // The entries of a round, the state that it began at and what its open snapshots were charged, the most entries,
-// the second holder of the last entry until it is taken, and room for the entry of a session, where it was made
-// beforehand.
+// the second holder of the last entry until it is taken, room for the entry of a session, where it was made
+// beforehand, and the entries of earlier rounds that have not gone yet.
 #[derive(Drop)]
 pub(crate) struct Journal {
     entries: Vec<SharedEntry>,
@@ -83,6 +86,7 @@ pub(crate) struct Journal {
     limit: u64,
     copy: Option<SharedEntry>,
     session_room: Option<EntryRoom>,
+    spent: Vec<SharedEntry>,
 }
 
 impl Model for Journal {
@@ -119,16 +123,19 @@ impl Journal {
             limit,
             copy: None,
             session_room: None,
+            spent: Vec::new(alloc),
         })
     }
 
-    // No entries, at another state with as many slots. It takes no memory.
+    // No entries, at another state with as many slots. Those that were there go a few with each new one, where there is
+    // memory for a list of them, and else at once.
     pub(crate) fn begin(&mut self, state: &State, limit: u64)
         requires limit { limit ≤ max_journal }
         requires slots { state.now.slots ≡ self.old.opening.slots }
         ensures room { self.old.room ≤ self.new.room }
         ensures began { self.new ≡ record { entries = []; opening = state.now; limit = limit; copy = None; room = self.new.room } }
     {
+        let _ = self.spent.append(&mut self.entries);
         self.entries.clear();
         self.opening.set(state);
         self.shares.set(&state.records);
@@ -179,13 +186,26 @@ impl Journal {
         }
     }
 
-    // One more entry, and its second holder. It takes no memory.
+    // Some entries of earlier rounds go, and with the last of them their list.
+    fn drop_spent(&mut self)
+        ensures { self.new ≡ self.old }
+    {
+        let count = self.spent.len();
+        if count > GOING {
+            self.spent.truncate(count - GOING);
+        } else {
+            self.spent = Vec::new(*self.spent.allocator());
+        }
+    }
+
+    // One more entry, and its second holder. Some of earlier rounds go. It takes no memory.
     pub(crate) fn push(&mut self, entry: SharedEntry, copy: SharedEntry)
         requires room { 0 < self.old.room }
         requires copy { copy ≡ entry }
         ensures room { self.new.room + 1 ≡ self.old.room }
         ensures entry { self.new ≡ record self.old { entries = self.old.entries ++ entry ∷ []; copy = Some entry; room = self.new.room } }
     {
+        self.drop_spent();
         self.entries.push_reserved(entry);
         self.copy = Some(copy);
     }

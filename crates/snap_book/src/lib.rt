@@ -24,6 +24,7 @@ mod charge;
 mod commit;
 mod files;
 mod journal;
+mod operation;
 mod plain;
 mod prepare;
 mod questions;
@@ -35,6 +36,7 @@ mod viewed;
 pub use active::{Active, Held, Released, Sealed};
 pub use book::Book;
 pub use charge::{needed_by, wanted};
+pub use operation::OpFault;
 pub use snap_call::{
     Call, Config, Entry, Given, Namespace, Question, Refusal, Removed, Reply, SharedEntry,
 };

@@ -93,8 +93,10 @@ impl<N: StoreName> Book<N> {
     /// number after the last one's. No snapshot may be open.
     ///
     /// `BadArgument` where the journal would be above 1,048,576 entries, then `NumbersSpent` where the
-    /// numbers of its entries could pass 2^62; the book is then as it was. No entry is made. Takes no
-    /// memory. The cost is that of dropping the entries of the round that ends.
+    /// numbers of its entries could pass 2^62; the book is then as it was. No entry is made.
+    ///
+    /// The entries of the round that ends go four with each later one. Takes memory for a list of them, 8 bytes each;
+    /// where that is refused they go at once. The cost grows with that list and with the number of slots.
     pub fn next_round(&mut self, journal: u64) -> Result<(), Refusal>
         requires { open_count self.old.state.records ≡ 0 }
         ensures answer { result ≡ round_answer self.old.state journal }
@@ -123,7 +125,7 @@ impl<N: StoreName> Book<N> {
     ///
     /// `BadArgument` and `NumbersSpent` as for [`Book::next_round`], then `JournalFull` where the new journal
     /// lacks an entry for the end of each open snapshot and one more; the book is then as it was. No entry is
-    /// made. Takes no memory. The cost is that of dropping the entries of the round that ends.
+    /// made. Memory and cost are those of [`Book::next_round`].
     pub fn roll(&mut self, journal: u64) -> Result<(), Refusal>
         ensures answer { result ≡ roll_answer self.old.state journal }
         ensures began { OnOk result (self.new ≡ record { state = next_round self.old.state; journal = []; opening = next_round self.old.state; limit = journal; copy = None }) }

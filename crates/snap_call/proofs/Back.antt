@@ -1,6 +1,6 @@
 -- What is saved of a good state is put back as it was.
 use Rattle.std.proofs.Common.{◌≡◌, ℕ, zero, suc, ◌+◌, ◌<◌, ◌≤◌, true, List, [], ◌∷◌, ◌++◌, length, Option, None, Some, IsSome, eq-eqb, refl, sym, ap, ◌∙◌, subst, arith}
-use Rattle.std.specs.Prelude.{filter, find, map, max, not, IfOk, Result, Ok, Err}
+use Rattle.std.specs.Prelude.{filter, find, map, max, not, Result, Ok, Err}
 use Rattle.std.specs.List.{AllByRecursion}
 use Rattle.std.proofs.lemmas.Bool.{eqb-true}
 use Rattle.std.proofs.lemmas.List.{append-nil, map-append}
@@ -153,8 +153,3 @@ put_back_all s good charged =
       omega (arith, all.1, fewer),
       all.2 ∙ ap (λ (l : List Record). Ok (record s { records = l; leases = []; next_id = all.0 })) (older-all s.next_id s.records good.numbered),
     )
-
--- what is said of a list is said of the answer that has it
-pub of_answer : {T E : Type 0} (items : T → List Saved) (P : List Saved → Type 0) (list : List Saved) (r : Result T E) → IfOk r (λ v. items v ≡ list) → P list → IfOk r (λ v. P (items v))
-of_answer items P list (Ok v) same holds = subst P (sym same) holds
-of_answer items P list (Err why) same holds = tt

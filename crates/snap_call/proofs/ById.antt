@@ -1,5 +1,5 @@
 -- Records in the order of their ids: what a sort by them gives.
-use Rattle.std.proofs.Common.{◌≡◌, ◌≢◌, ℕ, zero, suc, ◌<◌, ◌≤◌, Bool, true, false, eqb, cond, List, [], ◌∷◌, ◌++◌, length, Bor, refl, sym, ap, ◌∙◌, subst, arith}
+use Rattle.std.proofs.Common.{◌≡◌, ◌≢◌, ℕ, zero, suc, ◌<◌, ◌≤◌, Bool, true, false, eqb, cond, List, [], ◌∷◌, ◌++◌, length, refl, sym, ap, ◌∙◌, subst, map-id, arith}
 use Rattle.std.specs.List.{AllByRecursion}
 use Rattle.std.specs.Prelude.{filter, map, nat_lt, IsPermutation}
 use Rattle.std.proofs.lemmas.Bool.{eqb-true, false_from_ne_true, lt-ltb}
@@ -10,8 +10,7 @@ use Rattle.std.proofs.lemmas.List.Sorted.{All-permutation, IsNonDecreasingBy-dro
 use Rattle.std.proofs.lemmas.List.Sums.{length-filter}
 use Rattle.snap_record.specs.declared.record.Record.{Record}
 use Rattle.snap_call.specs.Records.{AllPairwise}
-use Rattle.snap_call.specs.declared.config.Namespace.{Namespace}
-use Rattle.snap_call.specs.Saved.{by_id, has_id, saved_of}
+use Rattle.snap_call.specs.Saved.{by_id, has_id}
 use Rattle.snap_call.proofs.Lists.{all-both, all-map}
 
 -- the record has an id below n
@@ -139,7 +138,8 @@ pub by_id-sorted : {X : Type 0} (f : X → Record) (n : ℕ) (rs : List Record) 
 by_id-sorted f n rs xs apart low moved up =
     sym (by_id-below f n xs up ∙ all_below n (map f xs) (recursion_from_All (λ r. r.id < n) (map f xs) (All-permutation (λ r. r.id < n) rs (map f xs) moved (All-from_recursion (λ r. r.id < n) rs low)))) ∙ by_id-moved rs (map f xs) apart moved n
 
--- what is saved of lent records
-pub saved_lent : (ns : List Namespace) (rs : List (Bor Record)) → map (λ r. saved_of ns r.now) rs ≡ map (saved_of ns) (map (λ r. r.now) rs)
-saved_lent ns [] = refl
-saved_lent ns (r ∷ rs) = ap (λ l. saved_of ns r.now ∷ l) (saved_lent ns rs)
+-- the same of records that are sorted themselves
+pub by_id-of_sorted : (n : ℕ) (rs : List Record) (xs : List Record) → AllPairwise (λ r t. r.id ≢ t.id) rs → AllByRecursion (λ r. r.id < n) rs
+    → IsPermutation rs xs → IsNonDecreasingBy (λ r. r.id) xs → xs ≡ by_id n rs
+by_id-of_sorted n rs xs apart low moved up =
+    sym (map-id xs) ∙ by_id-sorted (λ r. r) n rs xs apart low (subst (IsPermutation rs) (sym (map-id xs)) moved) up

@@ -56,15 +56,15 @@ amended-relabelled place key labels number (r ∷ rs) = ap (λ l. if is_named pl
 
 pub edited-namespace : (edit : RecordEdit) (r : Record) → (edited_record edit r).namespace ≡ r.namespace
 edited-namespace (edits.Content content) r = refl
-edited-namespace (edits.Labels labels number) r = refl
+edited-namespace (edits.Labels labels number copy) r = refl
 
 pub edited-key : (edit : RecordEdit) (r : Record) → (edited_record edit r).key ≡ r.key
 edited-key (edits.Content content) r = refl
-edited-key (edits.Labels labels number) r = refl
+edited-key (edits.Labels labels number copy) r = refl
 
 pub edited-parent : (edit : RecordEdit) (r : Record) → (edited_record edit r).parent ≡ r.parent
 edited-parent (edits.Content content) r = refl
-edited-parent (edits.Labels labels number) r = refl
+edited-parent (edits.Labels labels number copy) r = refl
 
 -- ---- by key
 

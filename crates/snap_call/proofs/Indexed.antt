@@ -4,7 +4,7 @@ use Rattle.std.proofs.lemmas.Bool.{false_from_ne_true}
 use Rattle.std.proofs.lemmas.Bool.Decides.{eqb_tells}
 use Rattle.std.specs.List.{AllByRecursion, find, list_any}
 use Rattle.std.specs.List.Sorted.{IsStrictlySortedBy}
-use Rattle.std.specs.Option.{option_copied, option_map, is_some}
+use Rattle.std.specs.Option.{IsSome, option_copied, option_map, is_some}
 use Rattle.std.specs.Result.{is_ok}
 use Rattle.std.specs.Prelude.{if◌then◌else◌, ◌||◌}
 use Rattle.snap_usage.specs.declared.usage.Usage.{Usage}
@@ -159,6 +159,15 @@ module _ (rs : List Record) (names : List (Option Name)) (at : AreIndexed rs nam
       let h = named slot n e in
       ap (λ (m : Name). without_key m.place m.key rs) h.2
       ∙ without-same (is_named h.0.namespace h.0.key) (is_slot slot) rs h.0 (own_named h.0) (active_at-is_slot slot rs h.0 h.1) (by_name slot h.0 h.1) h.1
+
+  -- who goes by it is active
+  pub active_by_name : (slot : ℕ) (n : Name) → name_in slot names ≡ Some n → (r : Record) → record_at n.place n.key rs ≡ Some r → IsSome (slot_of r.content)
+  active_by_name slot n e r found = held r.content (active_at-is_slot slot rs r (sym (found_at slot n e) ∙ found))
+    where
+      held : (content : Content) → has_slot slot content ≡ true → IsSome (slot_of content)
+      held (View layers) is = absurd (true≢false (sym is))
+      held (Active own charged) is = refl
+      held (Committed layer usage) is = absurd (true≢false (sym is))
 
   pub recharged_at : (slot : ℕ) (n : Name) (to : Usage) → name_in slot names ≡ Some n → edited_at n.place n.key (edits.Content (Active slot to)) rs ≡ recharged slot to rs
   recharged_at slot n to e =

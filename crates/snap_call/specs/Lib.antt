@@ -5,6 +5,7 @@ pub mod Namespaces
 pub mod Spaces
 pub mod State
 pub mod Reached
+pub mod Held
 pub mod Indexes
 pub mod Marked
 pub mod Good

@@ -132,6 +132,10 @@ recharged slot to (r ∷ rs) = if is_slot slot r then record r { content = Activ
 abbrev pub with_labels : List Label → ℕ → Record → Record
 with_labels labels number r = record r { labels = labels; updated = number }
 
+-- a record without its labels
+abbrev pub unlabelled : Record → Record
+unlabelled r = record r { labels = [] }
+
 -- the records after that of the key in the namespace has these labels
 abbrev pub relabelled : ℕ → Bytes → List Label → ℕ → List Record → List Record
 relabelled place key labels number [] = []

@@ -1,5 +1,5 @@
 -- Records by their namespaces: a list for each place, in the order of the places.
-use Rattle.std.specs.Prelude.{◌≡◌, ◌≢◌, ℕ, suc, ◌-◌, Bool, if◌then◌else◌, List, [], ◌∷◌, ◌++◌, length, map, filter, take, count_by, bytes_eq, string_bytes}
+use Rattle.std.specs.Prelude.{◌≡◌, ◌≢◌, ℕ, suc, ◌-◌, Bool, if◌then◌else◌, List, [], ◌∷◌, ◌++◌, length, map, filter, take, count_by, bytes_eq, string_bytes, IsSome}
 use Rattle.std.specs.Cmp.Lexicographic.{slice_cmp}
 use Rattle.std.specs.List.{AllByRecursion}
 use Rattle.std.specs.List.Sorted.{IsStrictlySortedBy}
@@ -15,7 +15,8 @@ use Rattle.snap_record.specs.Records.{info_of}
 use Rattle.snap_record.specs.declared.filter.Filter.{Filter}
 use Rattle.snap_record.specs.declared.info.Info.{Info}
 use Rattle.snap_record.specs.declared.record.Record.{Record}
-use Rattle.snap_call.specs.Records.{is_named, with_labels}
+use Rattle.snap_call.specs.Indexes.{slot_of}
+use Rattle.snap_call.specs.Records.{is_named, unlabelled, with_labels}
 use Rattle.snap_call.specs.declared.record_edit.RecordEdit.{RecordEdit}
 use Rattle.snap_call.specs.declared.record_edit.RecordEdit.TheVariants as edits
 
@@ -70,10 +71,15 @@ IsKeyed es = AllByRecursion (λ e. string_bytes e.0 ≡ e.1.key) es
 abbrev pub AreParentCounts : List Record → List (Bytes × ℕ) → Type 0
 AreParentCounts rs counts = (q : Bytes) → count_in q counts ≡ count_by (λ r. bytes_eq q r.parent) rs
 
+-- the edit is one of this record: an active one gets what it holds, and labels come with a copy of the record
+abbrev pub IsEditOf : RecordEdit → Record → Type 0
+IsEditOf (edits.Content content) r = IsSome (slot_of r.content)
+IsEditOf (edits.Labels labels number copy) r = copy.value ≡ unlabelled r
+
 -- the record after the edit
 abbrev pub edited_record : RecordEdit → Record → Record
 edited_record (edits.Content content) r = record r { content = content }
-edited_record (edits.Labels labels number) r = with_labels labels number r
+edited_record (edits.Labels labels number copy) r = with_labels labels number r
 
 -- the records after the first that passes a test is changed
 abbrev pub amended : (Record → Bool) → (Record → Record) → List Record → List Record

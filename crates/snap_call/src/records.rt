@@ -1,9 +1,11 @@
-ghost use Rattle.std.specs.Prelude.{◌≡◌, ◌<◌, ◌+◌, ◌^◌, [], true, false, map, filter, ◌==◌, length, option_copied, None, OnOk, OnErr, IfErr, IfOk, IsTrue, ◌↔◌, ℕ};
+ghost use Rattle.std.specs.Prelude.{◌≡◌, ◌<◌, ◌+◌, ◌^◌, [], true, false, map, filter, ◌==◌, length, option_copied, None, Some, OnOk, OnErr, IfErr, IfOk, IsTrue, ◌↔◌, ℕ};
 ghost use Rattle.std.specs.List.{list_any};
 ghost use Rattle.std.specs.Option.{option_map, option_to_list};
-ghost use Rattle.snap_call.specs.Records.{record_at, has_key, has_records, has_children, child_count, is_slot, active_at, with_record, without_key, without_keys, without_slot, recharged, relabelled, info_page, lowest_free, HasLowSlot, max_slots};
+ghost use Rattle.snap_call.specs.Records.{record_at, has_key, has_records, has_children, child_count, is_slot, active_at, with_record, without_key, without_keys, without_slot, recharged, relabelled, info_page, lowest_free, HasLowSlot, max_slots, unlabelled};
+ghost use Rattle.snap_record.specs.declared.record.Record.{Record};
 ghost use Rattle.snap_call.specs.Indexes.{slot_of};
 
+use crate::held_record::HeldRecord;
 use crate::open_slots::{Name, OpenSlots};
 use crate::record_edit::RecordEdit;
 use crate::removed::Removed;
@@ -50,6 +52,17 @@ pub fn slot_of(content: &Content) -> Option<u64>
     }
 }
 
+// The records themselves.
+fn records_of(alloc: Global, held: Vec<&HeldRecord>) -> Result<Vec<&Record>, AllocError>
+    ensures { IfOk result (λ list. map (λ r. r.now) list.items ≡ map (λ r. r.now) held.entry.items) }
+{
+    let mut list = Vec::with_capacity(alloc, held.len())?;
+    for it in held {
+        list.push(it.record())?;
+    }
+    Ok(list)
+}
+
 impl Records {
     /// No records. Takes no memory.
     pub fn new(alloc: Global) -> Records
@@ -64,8 +77,8 @@ impl Records {
         }
     }
 
-    /// The records, in their order. Takes memory for the list. The cost grows with their number.
-    pub fn list(&self, alloc: Global) -> Result<Vec<&Record>, AllocError>
+    // The records with who has them, in their order.
+    pub(crate) fn held(&self, alloc: Global) -> Result<Vec<&HeldRecord>, AllocError>
         ensures { IfOk result (λ list. map (λ r. r.now) list.items ≡ self.now) }
     {
         let mut list = Vec::with_capacity(alloc, self.spaces.count)?;
@@ -75,9 +88,8 @@ impl Records {
         Ok(list)
     }
 
-    /// The records of the namespace at the place, in the order of their keys. Takes memory for the list. The cost
-    /// grows with their number, whatever other namespaces have.
-    pub fn list_of(&self, alloc: Global, place: usize) -> Result<Vec<&Record>, AllocError>
+    // The same of the namespace at the place.
+    fn held_of(&self, alloc: Global, place: usize) -> Result<Vec<&HeldRecord>, AllocError>
         ensures { IfOk result (λ list. map (λ r. r.now) list.items ≡ filter (λ r. r.namespace == place) self.now) }
     {
         let list = Vec::new(alloc);
@@ -85,6 +97,21 @@ impl Records {
             Some(space) => space.listed(list),
             None => Ok(list),
         }
+    }
+
+    /// The records, in their order. Takes memory for the list. The cost grows with their number.
+    pub fn list(&self, alloc: Global) -> Result<Vec<&Record>, AllocError>
+        ensures { IfOk result (λ list. map (λ r. r.now) list.items ≡ self.now) }
+    {
+        records_of(alloc, self.held(alloc)?)
+    }
+
+    /// The records of the namespace at the place, in the order of their keys. Takes memory for the list. The cost
+    /// grows with their number, whatever other namespaces have.
+    pub fn list_of(&self, alloc: Global, place: usize) -> Result<Vec<&Record>, AllocError>
+        ensures { IfOk result (λ list. map (λ r. r.now) list.items ≡ filter (λ r. r.namespace == place) self.now) }
+    {
+        records_of(alloc, self.held_of(alloc, place)?)
     }
 
     /// How many records there are. Takes no memory. The cost is constant.
@@ -187,9 +214,16 @@ impl Records {
         None
     }
 
+    /// The record, as it is put in its place. Takes memory for it without its texts.
+    pub fn hold(&self, value: Record) -> Result<HeldRecord, NoMemory>
+        ensures { IfOk result (λ held. held ≡ value) }
+    {
+        HeldRecord::new(*self.spaces.list.allocator(), value)
+    }
+
     /// Puts a record in its place. Its key is new in its namespace, and where it is active its slot is
     /// free. Where memory is refused, the records are as they were and the error gives the record back.
-    pub fn insert(&mut self, added: Record) -> Result<(), (NoMemory, Record)>
+    pub fn insert(&mut self, added: HeldRecord) -> Result<(), (NoMemory, HeldRecord)>
         requires new { has_key added.namespace added.key self.old ≡ false }
         requires few { length self.old + 1 < 2 ^ 64 }
         requires low { HasLowSlot max_slots added.content }
@@ -198,10 +232,10 @@ impl Records {
         ensures err { OnErr result (self.new ≡ self.old) }
         ensures value_returned { IfErr result (λ back. back.1 ≡ added) }
     {
-        let Some(slot) = slot_of(&added.content) else {
+        let Some(slot) = slot_of(&added.record().content) else {
             return self.spaces.put(added);
         };
-        let key = match added.key.clone() {
+        let key = match added.record().key.clone() {
             Ok(key) => key,
             Err(refused) => return Err((refused.into(), added)),
         };
@@ -209,7 +243,7 @@ impl Records {
             return Err((refused.into(), added));
         }
         let name = Name {
-            place: added.namespace,
+            place: added.record().namespace,
             key,
         };
         let inserted = self.spaces.put(added);
@@ -221,7 +255,7 @@ impl Records {
 
     /// Takes the record of a slot away. Where the slot is not open, the records are as they were.
     /// Takes no memory.
-    pub fn take_slot(&mut self, slot: u64) -> Option<Record>
+    pub fn take_slot(&mut self, slot: u64) -> Option<HeldRecord>
         ensures taken { self.new ≡ without_slot slot self.old }
         ensures record_taken { result ≡ active_at slot self.old }
     {
@@ -233,14 +267,14 @@ impl Records {
 
     /// Takes the record of the key in the namespace at the place away. Where there is none, the records
     /// are as they were. Takes no memory.
-    pub fn take_key(&mut self, place: usize, key: &str) -> Option<Record>
+    pub fn take_key(&mut self, place: usize, key: &str) -> Option<HeldRecord>
         ensures taken { self.new ≡ without_key place key.now self.old }
         ensures record_taken { result ≡ record_at place key.now self.old }
     {
         let Some(taken) = self.spaces.take_out(place, key) else {
             return None;
         };
-        let Some(slot) = slot_of(&taken.content) else {
+        let Some(slot) = slot_of(&taken.record().content) else {
             return Some(taken);
         };
         let _ = self.slots.take(slot);
@@ -272,10 +306,22 @@ impl Records {
 
     /// Gives the record of the key in the namespace at the place these labels, as the journal entry of
     /// this number leaves it. Where there is none, the records are as they were. Takes no memory.
-    pub fn relabel(&mut self, place: usize, key: &str, labels: Labels, number: u64)
+    pub fn relabel(
+        &mut self,
+        place: usize,
+        key: &str,
+        labels: Labels,
+        number: u64,
+        copy: Box<Record>,
+    )
+        requires { (r : Record) → record_at place key.now self.old ≡ Some r → copy.value ≡ unlabelled r }
         ensures { self.new ≡ relabelled place key.now labels number self.old }
     {
-        let edit = RecordEdit::Labels { labels, number };
+        let edit = RecordEdit::Labels {
+            labels,
+            number,
+            copy,
+        };
         self.spaces.edit_at(place, key, edit);
     }
 

@@ -1,6 +1,6 @@
 ghost use Rattle.std.specs.Prelude.{◌≡◌, IsOk};
 
-use snap_record::Record;
+use crate::held_record::HeldRecord;
 use std::alloc::{AllocError, Global};
 use std::marker::Model;
 
@@ -9,7 +9,7 @@ use std::marker::Model;
 /// nothing of it.
 #[derive(Debug)]
 pub struct Removed {
-    records: Vec<Record>,
+    records: Vec<HeldRecord>,
 }
 
 impl Model for Removed {
@@ -43,7 +43,7 @@ impl Removed {
     }
 
     /// Keeps the record, if there is one; where there is no room for it, it goes at once. Takes no memory.
-    pub fn keep(&mut self, taken: Option<Record>) {
+    pub fn keep(&mut self, taken: Option<HeldRecord>) {
         if let Some(record) = taken {
             if self.records.len() < self.records.capacity() {
                 self.records.push_reserved(record);

@@ -1,14 +1,14 @@
 // The records of all namespaces.
-ghost use Rattle.std.specs.Prelude.{◌≡◌, ◌<◌, ◌+◌, ◌^◌, false, length, OnOk, OnErr, IfErr, vec_len};
+ghost use Rattle.std.specs.Prelude.{◌≡◌, Some, ◌<◌, ◌+◌, ◌^◌, false, length, OnOk, OnErr, IfErr, vec_len};
 ghost use Rattle.snap_call.specs.Records.{record_at, has_key, has_records, with_record, without_key};
-ghost use Rattle.snap_call.specs.Spaces.{AreCounted, AreFrom, joined_records, edited_at};
+ghost use Rattle.snap_call.specs.Spaces.{AreCounted, AreFrom, IsEditOf, joined_records, edited_at};
+ghost use Rattle.snap_record.specs.declared.record.Record.{Record};
 
+use crate::held_record::HeldRecord;
 use crate::record_edit::RecordEdit;
 use snap_path::NoMemory;
-use snap_record::Record;
 use std::alloc::AllocError;
 
-mod boxed_record;
 mod group;
 mod space;
 
@@ -44,7 +44,7 @@ impl Spaces {
     /// memory is that of the room, of the record and of its entry, of a copy of the name of its parent
     /// where no other record of the namespace is on it, and of copies of the keys that begin as its
     /// own where there are such.
-    pub(crate) fn put(&mut self, added: Record) -> Result<(), (NoMemory, Record)>
+    pub(crate) fn put(&mut self, added: HeldRecord) -> Result<(), (NoMemory, HeldRecord)>
         requires counted { AreCounted self.old.list.items self.old.count }
         requires new { has_key added.namespace added.key (joined_records self.old.list.items) ≡ false }
         requires few { length (joined_records self.old.list.items) + 1 < 2 ^ 64 }
@@ -53,7 +53,7 @@ impl Spaces {
         ensures err { OnErr result (joined_records self.new.list.items ≡ joined_records self.old.list.items) }
         ensures value_returned { IfErr result (λ back. back.1 ≡ added) }
     {
-        let place = added.namespace;
+        let place = added.record().namespace;
         if let Err(refused) = grow(&mut self.list, place) {
             return Err((refused.into(), added));
         }
@@ -65,7 +65,7 @@ impl Spaces {
 
     /// Takes the record of the key in the namespace at the place away. Where there is none, the
     /// records are as they were. Takes no memory.
-    pub(crate) fn take_out(&mut self, place: usize, key: &str) -> Option<Record>
+    pub(crate) fn take_out(&mut self, place: usize, key: &str) -> Option<HeldRecord>
         requires { AreCounted self.old.list.items self.old.count }
         ensures counted { AreCounted self.new.list.items self.new.count }
         ensures taken { joined_records self.new.list.items ≡ without_key place key.now (joined_records self.old.list.items) }
@@ -83,7 +83,8 @@ impl Spaces {
     /// Edits the record of the key in the namespace at the place. Where there is none, the records are
     /// as they were. Takes no memory.
     pub(crate) fn edit_at(&mut self, place: usize, key: &str, edit: RecordEdit)
-        requires { AreCounted self.old.list.items self.old.count }
+        requires counted { AreCounted self.old.list.items self.old.count }
+        requires edit { (r : Record) → record_at place key.now (joined_records self.old.list.items) ≡ Some r → IsEditOf edit r }
         ensures counted { AreCounted self.new.list.items self.new.count }
         ensures edited { joined_records self.new.list.items ≡ edited_at place key.now edit (joined_records self.old.list.items) }
     {

@@ -218,7 +218,8 @@ impl State {
         };
         let place = active.namespace;
         let committed = committed_as(active, name, labels, layer, self.entries + 1)?;
-        if let Err((no_memory, _)) = self.records.insert(committed) {
+        let held = self.records.hold(committed)?;
+        if let Err((no_memory, _)) = self.records.insert(held) {
             return Err(no_memory.into());
         }
         if let Err(refused) = self.name_in(place, name.as_str(), lease) {
@@ -240,7 +241,8 @@ impl State {
         ensures err { OnErr result (self.new ≡ self.old) }
     {
         let next = added.id as u64 + 1;
-        if let Err((no_memory, _)) = self.records.insert(added) {
+        let held = self.records.hold(added)?;
+        if let Err((no_memory, _)) = self.records.insert(held) {
             return Err(no_memory.into());
         }
         self.next_id = next;

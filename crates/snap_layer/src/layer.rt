@@ -111,7 +111,8 @@ impl Layer {
     /// It fails only where memory is refused. Cost: its inodes and paths, with all bytes of its
     /// files.
     pub fn copy(&self) -> Result<Layer, AllocError>
-        ensures { IfOk result (λ l. l ≡ self.now) }
+        ensures same { IfOk result (λ l. l ≡ self.now) }
+        ensures layer { IfOk result IsLayer }
     {
         Ok(Layer {
             table: self.table.copy()?,

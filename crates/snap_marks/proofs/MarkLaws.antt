@@ -1,5 +1,5 @@
 -- What a mark leaves of the sums.
-use Rattle.std.proofs.Common.{ap₂, length-append, append-nil, Option, None, ◌*◌, ◌+◌, ◌≡◌, ◌≤◌, ℕ, zero, suc, Bool, true, false, not, ◌==◌, List, [], ◌∷◌, ◌++◌, length, take, slice_index, refl, sym, ap, ◌∙◌, append_assoc}
+use Rattle.std.proofs.Common.{ap₂, length-append, append-nil, Option, None, ◌*◌, ◌+◌, ◌≡◌, ◌≤◌, ℕ, zero, suc, Bool, true, false, not, true≢false, codes, ◌==◌, List, [], ◌∷◌, ◌++◌, length, take, slice_index, refl, sym, ap, ◌∙◌, append_assoc}
 use Rattle.std.specs.Prelude.{if◌then◌else◌, bytes_eq, is_none, ◌&&◌, ◌/◌, ◌%◌}
 use Rattle.std.proofs.lemmas.Slice.Eq.{bytes_eq-Decides}
 use Rattle.sha2.proofs.Facts256.{length-sha256}
@@ -10,8 +10,9 @@ use Rattle.std.proofs.lemmas.List.{take-take, take_at}
 use lib.Pointwise.{pointwise}
 use Rattle.hex.specs.Hex.{encode_lower, encode_with, lower_digits}
 use Rattle.snap_marks.specs.declared.sums.Sums.{Sums}
-use Rattle.snap_marks.specs.Marks.{chained, chained_from, first_part, head, is_mark_line, middle, stem, tail}
-use Rattle.snap_marks.specs.Sums.{agreed, differing, marks_agree, mark_compared, rebased, rebased_mark, what_differs}
+use Rattle.snap_marks.specs.Marks.{chained, chained_from, continued_text, first_part, head, head_continued, is_continued_line, is_mark_line, middle, stem, tail}
+use Rattle.snap_marks.specs.Sums.{agreed, continued, differing, going_on, marks_agree, mark_compared, rebased, rebased_mark, what_differs}
+use Rattle.snap_marks.specs.declared.sums.Differs.TheVariants.{Lines}
 
 chosen : {A B : Type 0} (f : A → B) (t u : Bool) (x y z : A) (b : B) → f x ≡ b → f y ≡ b → f z ≡ b → f (if t then x else if u then y else z) ≡ b
 chosen f true u x y z b p q r = p
@@ -132,3 +133,92 @@ chained_more sum begun (b ∷ line) rest one =
     by : (t : Bool) → not t ≡ true → t ≡ false
     by true h = absurd (cc)
     by false h = refl
+
+-- ---- marks from which sums go on
+
+-- no quote is among these bytes
+abbrev IsQuoteless : List ℕ → Type 0
+IsQuoteless bytes = list_all (λ b. not (34 == b)) bytes ≡ true
+
+quoteless_at : (bytes : List ℕ) (n : ℕ) → IsQuoteless bytes → (34 == slice_index bytes n) ≡ false
+quoteless_at [] n h = refl
+quoteless_at (b ∷ bytes) zero h = by (34 == b) (list_all (λ b. not (34 == b)) bytes) h
+  where
+    by : (t q : Bool) → (not t && q) ≡ true → t ≡ false
+    by true q h = absurd (cc)
+    by false q h = refl
+quoteless_at (b ∷ bytes) (suc n) h = quoteless_at bytes n (by (34 == b) (list_all (λ b. not (34 == b)) bytes) h)
+  where
+    by : (t q : Bool) → (not t && q) ≡ true → q ≡ true
+    by true q h = absurd (cc)
+    by false q h = h
+
+-- behind a mark's head stands a digit, or no sum at all
+no_quote : (lines more : List ℕ) → pointwise (λ a b. a == b) head_continued (take (length head_continued) (head ++ (encode_lower lines ++ (middle ++ more)))) ≡ false
+unfolding encode_with
+no_quote [] more = refl
+no_quote (b ∷ lines) more =
+    ap (λ (t : Bool). t && pointwise (λ a b. a == b) (codes ",\"continued\":\"") (take 14 (slice_index lower_digits (b % 16) ∷ (encode_lower lines ++ (middle ++ more))))) (quoteless_at lower_digits (b / 16) refl)
+
+-- a mark that is compared is none of them, though it were cut
+pub mark_goes_not : (n : ℕ) (lines answers end : List ℕ) → length head_continued ≤ n → is_continued_line (take n (stem lines answers ++ end)) ≡ false
+mark_goes_not n lines answers end low =
+    let more : List ℕ = encode_lower answers ++ end in
+    let whole : stem lines answers ++ end ≡ head ++ (encode_lower lines ++ (middle ++ more)) =
+    append_assoc (first_part lines) (encode_lower answers) end ∙ append_assoc head (encode_lower lines ++ middle) more ∙ ap (λ (l : List ℕ). head ++ l) (append_assoc (encode_lower lines) middle more) in
+    ap (pointwise (λ a b. a == b) head_continued) (take-take (length head_continued) n (stem lines answers ++ end) low ∙ ap (take (length head_continued)) whole) ∙ no_quote lines more
+
+-- one of them is a mark, and reads as one
+pub continued_is : (n : ℕ) (lines answers : List ℕ) → length head_continued ≤ n → is_continued_line (take n (continued_text lines answers)) ≡ true
+continued_is n lines answers low =
+    let more : List ℕ = encode_lower lines ++ (encode_lower answers ++ tail) in
+    ap (pointwise (λ a b. a == b) head_continued) (take-take (length head_continued) n (head_continued ++ more) low ∙ take_at head_continued more (length head_continued) refl) ∙ refl
+
+pub continued_marks : (n : ℕ) (lines answers : List ℕ) → length head ≤ n → is_mark_line (take n (continued_text lines answers)) ≡ true
+continued_marks n lines answers low =
+    ap (λ (m : List ℕ). is_mark_line (take n m)) (append_assoc head (codes "\",\"continued\":\"") (encode_lower lines ++ (encode_lower answers ++ tail)))
+    ∙ begins_mark n (codes "\",\"continued\":\"" ++ (encode_lower lines ++ (encode_lower answers ++ tail))) low
+
+-- so a line that is no mark is none of them
+pub unmarked_goes_not : (line : List ℕ) → is_mark_line line ≡ false → is_continued_line line ≡ false
+unmarked_goes_not line h = by (is_continued_line line) refl
+  where
+    longer : (p q l : List ℕ) → pointwise (λ a b. a == b) (p ++ q) (take (length (p ++ q)) l) ≡ true → pointwise (λ a b. a == b) p (take (length p) l) ≡ true
+    longer [] q l is = refl
+    longer (x ∷ p) q [] is = absurd (cc)
+    longer (x ∷ p) q (y ∷ l) is = both (x == y) (pointwise (λ a b. a == b) p (take (length p) l)) (one (x == y) _ is) (longer p q l (two (x == y) _ is))
+      where
+        one : (s t : Bool) → (s && t) ≡ true → s ≡ true
+        one true t h = refl
+        one false t h = absurd (cc)
+
+        two : (s t : Bool) → (s && t) ≡ true → t ≡ true
+        two true t h = h
+        two false t h = absurd (cc)
+
+    by : (t : Bool) → is_continued_line line ≡ t → is_continued_line line ≡ false
+    by false is = is
+    by true is = absurd (true≢false (sym (longer head (codes "\",\"continued\":\"") line is) ∙ h))
+
+-- it has no line feed
+pub open_continued : (lines answers : List ℕ) → IsOneLine (continued_text lines answers)
+open_continued lines answers =
+    open_both head_continued (encode_lower lines ++ (encode_lower answers ++ tail)) refl (open_both (encode_lower lines) (encode_lower answers ++ tail) (open_hex lines) (open_both (encode_lower answers) tail (open_hex answers) refl))
+
+-- and 169 bytes
+pub length_continued : (lines answers : List ℕ) → length lines ≡ 32 → length answers ≡ 32 → length (continued_text lines answers) ≡ 169
+length_continued lines answers p q =
+    let begin : length head_continued ≡ 39 = refl in
+    let end : length tail ≡ 2 = refl in
+    length-append head_continued (encode_lower lines ++ (encode_lower answers ++ tail))
+    ∙ ap₂ (λ (m n : ℕ). m + n) begin (length-append (encode_lower lines) (encode_lower answers ++ tail) ∙ ap₂ (λ (m n : ℕ). m + n) (length_hex lines p) (length-append (encode_lower answers) tail ∙ ap₂ (λ (m n : ℕ). m + n) (length_hex answers q) end))
+
+-- where all marks agree, sums go on from it
+pub continued_goes : (s : Sums) (mark : List ℕ) → marks_agree s ≡ true → continued s mark ≡ going_on s mark
+unfolding continued
+continued_goes s mark h = ap (λ (t : Bool). if t then going_on s mark else differing s Lines) h
+
+-- else it is told of those that were there
+pub continued_differs : (s : Sums) (mark : List ℕ) → marks_agree s ≡ false → continued s mark ≡ differing s Lines
+unfolding continued
+continued_differs s mark h = ap (λ (t : Bool). if t then going_on s mark else differing s Lines) h

@@ -20,9 +20,17 @@ tail = codes "\"}"
 abbrev pub tail_rebased : List ℕ
 tail_rebased = codes "\",\"rebased\":true}"
 
+-- one from which sums go on, whatever they were, begins so
+abbrev pub head_continued : List ℕ
+head_continued = codes "{\"do\":\"report\",\"lines\":\"\",\"continued\":\""
+
 -- a line, without its line feed, is a mark
 abbrev pub is_mark_line : List ℕ → Bool
 is_mark_line line = starts_with (λ a b. a == b) line head
+
+-- it is one from which sums go on
+abbrev pub is_continued_line : List ℕ → Bool
+is_continued_line line = starts_with (λ a b. a == b) line head_continued
 
 -- its first part, by the sum of lines
 abbrev pub first_part : List ℕ → List ℕ
@@ -31,6 +39,10 @@ first_part lines = head ++ (encode_lower lines ++ middle)
 -- all but its end, by both sums
 abbrev pub stem : List ℕ → List ℕ → List ℕ
 stem lines answers = first_part lines ++ encode_lower answers
+
+-- the mark from which on sums go on, where they are these
+abbrev pub continued_text : List ℕ → List ℕ → List ℕ
+continued_text lines answers = head_continued ++ (encode_lower lines ++ (encode_lower answers ++ tail))
 
 -- the SHA-256 of a sum and of the bytes that come next (FIPS 180-4); a sum of lines or of answers goes on by it
 abbrev pub chained : List ℕ → List ℕ → List ℕ

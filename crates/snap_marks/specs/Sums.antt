@@ -4,7 +4,7 @@ use Rattle.std.specs.List.{starts_with}
 use Rattle.snap_marks.specs.declared.sums.Differs.{Differs}
 use Rattle.snap_marks.specs.declared.sums.Differs.TheVariants.{Lines, Answers}
 use Rattle.snap_marks.specs.declared.sums.Sums.{Sums}
-use Rattle.snap_marks.specs.Marks.{chained, chained_lines, first_part, stem, tail, tail_rebased}
+use Rattle.snap_marks.specs.Marks.{chained, chained_lines, continued_text, first_part, stem, tail, tail_rebased}
 
 -- a sum before the first line
 abbrev pub no_sum : List ℕ
@@ -60,3 +60,15 @@ mark_compared s mark =
 -- each mark agrees, and the last line is one, if there is any
 abbrev pub marks_agree : Sums → Bool
 marks_agree s = is_none s.differs && s.ends
+
+-- the mark from which on sums go on, where they are these
+abbrev pub continued_mark : Sums → List ℕ
+continued_mark s = continued_text s.lines s.answers
+
+-- behind it: from its bytes alone, so that they go on alike behind two texts that end with it
+abbrev pub going_on : Sums → List ℕ → Sums
+going_on s mark = record s { lines = chained no_sum (mark ++ 10 ∷ []); answers = no_sum; told = no_sum; read = next_read s.read; agreed = next_read s.read; ends = true }
+
+-- the same, where all marks agree and the last line is one; else this one doesn't
+unfoldable pub continued : Sums → List ℕ → Sums
+continued s mark = if marks_agree s then going_on s mark else differing s Lines

@@ -8,5 +8,5 @@
 mod mark;
 mod sums;
 
-pub use mark::{chained_lines, is_mark};
+pub use mark::{chained_lines, is_continued, is_mark};
 pub use sums::{Difference, Differs, Sums};

@@ -1,9 +1,9 @@
 // The sums of a log, as its lines are carried out.
 ghost use Rattle.std.specs.Prelude.{◌≡◌, ◌++◌, IfOk, OnErr, OnOk, bytes_eq};
 ghost use Rattle.snap_marks.specs.Marks.{stem, tail, tail_rebased};
-ghost use Rattle.snap_marks.specs.Sums.{agreed, differing, marks_agree, mark_behind, mark_compared, next_read, no_sums, passed, rebased, rebased_mark, summed, what_differs};
+ghost use Rattle.snap_marks.specs.Sums.{agreed, continued, continued_mark, differing, going_on, marks_agree, mark_behind, mark_compared, next_read, no_sums, passed, rebased, rebased_mark, summed, what_differs};
 
-use crate::mark::{chained, chained_line, chained_lines, first_part, stem};
+use crate::mark::{chained, chained_line, chained_lines, continued_text, first_part, stem};
 use std::alloc::{AllocError, Global};
 
 /// What isn't as a mark has it.
@@ -186,6 +186,40 @@ impl Sums {
         let what = self.what_differs(alloc, mark)?;
         self.differ(what);
         Ok(())
+    }
+
+    /// The mark from which on sums go on, by its bytes alone.
+    ///
+    /// `AllocError` where memory for its bytes was refused.
+    pub fn continued(&self, alloc: Global) -> Result<Vec<u8>, AllocError>
+        ensures { IfOk result (λ mark. mark.items ≡ continued_mark self.now) }
+    {
+        continued_text(alloc, &self.lines, &self.answers)
+    }
+
+    /// Goes on from such a mark, which stands here without its line feed. Takes no memory.
+    pub fn go_on(&mut self, mark: &[u8])
+        ensures { self.new ≡ going_on self.old mark.now }
+    {
+        let none = [0; 32];
+        self.read = next_read(self.read);
+        self.lines = chained_line(&none, mark);
+        self.answers = none;
+        self.told = none;
+        self.ends = true;
+        self.agreed = self.read;
+    }
+
+    /// The same where all marks agree and the last line is one; else this mark doesn't. Takes no memory.
+    #[tactic(auto, unfolding(crate::specs::Sums::continued))]
+    pub fn continue_from(&mut self, mark: &[u8])
+        ensures { self.new ≡ continued self.old mark.now }
+    {
+        if self.is_whole() {
+            self.go_on(mark);
+        } else {
+            self.differ(Differs::Lines);
+        }
     }
 
     /// Whether each mark agrees, and the last line is one, if there is any.

@@ -8,6 +8,7 @@ use Rattle.snap_pair.specs.Pair.{first_after, second_after}
 use Rattle.snap_pair.specs.declared.error.Failed.{Failed}
 use Rattle.snap_pair.specs.declared.error.ReplaceFailed.{ReplaceFailed}
 use Rattle.snap_pair.specs.declared.replacing.Replacing.{Replacing}
+use Rattle.snap_pair.specs.declared.replacing.ReplacingParts.{ReplacingParts}
 
 module _ {D : Type 0} {g : Ghosts D} where
   -- the lines that count
@@ -24,6 +25,16 @@ module _ {D : Type 0} {g : Ghosts D} where
 
   abbrev pub second_in : Replacing D g → D
   second_in r = if r.is_second then disk_behind r.coming else disk_of r.counting
+
+  -- the same apart
+  abbrev pub first_apart : ReplacingParts D g → D
+  first_apart p = if p.is_second then disk_of p.counting else disk_behind p.coming
+
+  abbrev pub second_apart : ReplacingParts D g → D
+  second_apart p = if p.is_second then disk_behind p.coming else disk_of p.counting
+
+  abbrev pub ArePartsHonest : ReplacingParts D g → Type 0
+  ArePartsHonest p = IsHonest p.counting × IsHonestStage p.coming
 
   -- no answer of the disks was a lie
   abbrev pub AreReplacingHonest : Replacing D g → Type 0

@@ -1,6 +1,6 @@
 // The two logs of a pair, of which one counts.
 ghost use Rattle.std.specs.Prelude.{◌≡◌, ◌<◌, [], false, length, true};
-ghost use Rattle.snap_log.specs.Log.{text_in};
+ghost use Rattle.snap_log.specs.Log.{IsHonest, text_in};
 ghost use Rattle.snap_pair.specs.Pair.{ArePairHonest, joined, lines_in};
 
 use crate::pair::Pair;
@@ -42,6 +42,8 @@ pub(crate) fn apart<D: Disk>(first: Log<D>, second: Log<D>) -> Halves<D>
     ensures counting { ArePairHonest (joined result) → text_in result.counting ≡ lines_in (joined result) }
     ensures none { ArePairHonest (joined result) → result.is_second ≡ false → text_in result.other ≡ [] }
     ensures some { ArePairHonest (joined result) → result.is_second ≡ true → 0 < length (text_in result.counting) }
+    ensures blank { IsHonest result.other → result.is_second ≡ false → text_in result.other ≡ [] }
+    ensures filled { IsHonest result.counting → result.is_second ≡ true → 0 < length (text_in result.counting) }
 {
     if second.is_empty() {
         Halves {

@@ -15,4 +15,4 @@ mod replacing;
 pub use error::{Failed, PairUnopened, ReplaceFailed, Which};
 pub use halves::Halves;
 pub use pair::Pair;
-pub use replacing::Replacing;
+pub use replacing::{Replacing, ReplacingParts};

@@ -1,7 +1,7 @@
 //! Two files of which one counts.
 ghost use Rattle.std.specs.Prelude.{◌≡◌, ◌⊎◌, ◌+◌, ◌<◌, ◌≤◌, ◌^◌, ℕ, false, true, List, [], ◌++◌, length, take, drop, IfOk, IfErr, OnOk, IsTrue};
 ghost use Rattle.sqlite_disk.specs.Disk.{MoreFaults};
-ghost use Rattle.snap_log.specs.Log.{text_in};
+ghost use Rattle.snap_log.specs.Log.{IsHonest, text_in};
 ghost use Rattle.snap_log.specs.Opening.{FailsFor, IsRefusedFile, RefusesFile};
 ghost use Rattle.snap_log.specs.Texts.{log_text, AreLines};
 ghost use Rattle.snap_pair.specs.Texts.{pair_text};
@@ -162,6 +162,8 @@ impl<D: Disk> Pair<D> {
         // The second file counts where it has a line.
         ensures none { ArePairHonest self → result.is_second ≡ false → text_in result.other ≡ [] }
         ensures some { ArePairHonest self → result.is_second ≡ true → 0 < length (text_in result.counting) }
+        ensures blank { IsHonest result.other → result.is_second ≡ false → text_in result.other ≡ [] }
+        ensures filled { IsHonest result.counting → result.is_second ≡ true → 0 < length (text_in result.counting) }
     {
         let Pair { first, second } = self;
         apart(first, second)

@@ -1,7 +1,7 @@
 //! Lines that are to take the place of all others.
 ghost use Rattle.std.specs.Prelude.{◌≡◌, ◌⊎◌, ◌+◌, ◌<◌, ◌≤◌, ◌^◌, ℕ, false, List, [], ◌++◌, length, IfOk, IfErr, OnErr, OnOk, IsTrue};
 ghost use Rattle.snap_log.specs.Log.{IsHonest, disk_of, text_in};
-ghost use Rattle.snap_log.specs.Staged.{IsHonestStage, text_before};
+ghost use Rattle.snap_log.specs.Staged.{IsHonestStage, lines_staged, text_before};
 ghost use Rattle.snap_log.specs.Texts.{AreLines};
 ghost use Rattle.snap_pair.specs.Texts.{pair_text};
 
@@ -11,6 +11,44 @@ use crate::pair::Pair;
 use snap_log::{AppendFailed, Appending, Log};
 use sqlite_disk::Disk;
 use std::io;
+
+/// The log that counts, and the lines that are written to take its place, apart.
+#[derive(Drop)]
+pub struct ReplacingParts<D: Disk> {
+    /// The log that counts.
+    pub counting: Log<D>,
+    /// What is written into the other file.
+    pub coming: Appending<D>,
+    /// Whether that is the second one.
+    pub is_second: bool,
+}
+
+impl<D: Disk> ReplacingParts<D> {
+    ghost use Rattle.snap_pair.specs.Replacing.{AreReplacingHonest, ArePartsHonest, first_apart, first_in, lines_coming, lines_counting, second_apart, second_in};
+
+    /// Both together. The other file has no line, and the second one some where it counts. Takes no memory, and calls no
+    /// disk.
+    pub fn join(self) -> Replacing<D>
+        requires none { IsHonestStage self.coming → text_before self.coming ≡ [] }
+        requires some { IsHonest self.counting → self.is_second ≡ false → 0 < length (text_in self.counting) }
+        ensures counting { lines_counting result ≡ text_in self.counting }
+        ensures coming { lines_coming result ≡ lines_staged self.coming }
+        ensures honest { AreReplacingHonest result → ArePartsHonest self }
+        ensures first { first_in result ≡ first_apart self }
+        ensures second { second_in result ≡ second_apart self }
+    {
+        let ReplacingParts {
+            counting,
+            coming,
+            is_second,
+        } = self;
+        Replacing {
+            counting,
+            coming,
+            is_second,
+        }
+    }
+}
 
 /// Two files of which one counts, and lines that are written into the other one.
 ///
@@ -29,7 +67,7 @@ pub struct Replacing<D: Disk> {
 
 impl<D: Disk> Replacing<D> {
     ghost use Rattle.snap_pair.specs.Pair.{ArePairHonest, AreHonestAfter, IfPairNotKept, OneFailed, PairKeeps, first_after, first_of, second_after, second_of};
-    ghost use Rattle.snap_pair.specs.Replacing.{AreHonestAdding, AreReplacingHonest, LeavesCounting, first_in, lines_coming, lines_counting, second_in};
+    ghost use Rattle.snap_pair.specs.Replacing.{AreHonestAdding, ArePartsHonest, AreReplacingHonest, LeavesCounting, first_apart, first_in, lines_coming, lines_counting, second_apart, second_in};
 
     // Lines are to take the place of those that count, which stand in the first file.
     pub(crate) fn in_second(first: Log<D>, second: Log<D>) -> Replacing<D>
@@ -63,6 +101,29 @@ impl<D: Disk> Replacing<D> {
             counting: second,
             coming: first.begin_append(),
             is_second: false,
+        }
+    }
+
+    /// The log that counts, and what is written into the other file. Takes no memory, and calls no disk.
+    pub fn split(self) -> ReplacingParts<D>
+        ensures counting { text_in result.counting ≡ lines_counting self }
+        ensures coming { lines_staged result.coming ≡ lines_coming self }
+        ensures honest { ArePartsHonest result → AreReplacingHonest self }
+        ensures first { first_apart result ≡ first_in self }
+        ensures second { second_apart result ≡ second_in self }
+        // The other file has no line, and the second one some where it counts.
+        ensures none { IsHonestStage result.coming → text_before result.coming ≡ [] }
+        ensures some { IsHonest result.counting → result.is_second ≡ false → 0 < length (text_in result.counting) }
+    {
+        let Replacing {
+            counting,
+            coming,
+            is_second,
+        } = self;
+        ReplacingParts {
+            counting,
+            coming,
+            is_second,
         }
     }
 

@@ -97,6 +97,7 @@ impl Path {
     pub fn as_str(&self) -> &str
         ensures value { result.now ≡ text_of self.now }
         ensures short { length (text_of self.now) ≤ most_path_bytes }
+        ensures valid { IsPath self.now }
     {
         if self.text.is_empty() {
             "/"

@@ -103,8 +103,8 @@ impl<N: RoundName> Store<N> {
     /// `journal` entries, and sessions are counted from 0 again.
     ///
     /// `BadArgument` where the journal would be above 1,048,576 entries, then `NumbersSpent` where the numbers
-    /// of its entries could pass 2^62; the closed store comes back as it was. Takes no memory. The cost is
-    /// that of dropping the entries of the round that ends.
+    /// of its entries could pass 2^62; the closed store comes back as it was. Memory and
+    /// cost are those of [`Book::next_round`](snap_book::Book::next_round).
     pub fn reopen(closed: Closed<N>, journal: u64) -> Result<Store<N>, NotOpened<N>>
         ensures opened { OnOk result (round_answer closed.state journal ≡ Ok tt) }
         ensures round { IfOk result (λ store. store ≡ record { opening = next_round closed.state; limit = journal }) }

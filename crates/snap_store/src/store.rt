@@ -22,7 +22,7 @@ use snap_record::{Labels, Text};
 use snap_round::{Half, KnownRound, NewStore, RoundName, Tie};
 use snap_tape::{Session, TapeCount};
 use snap_usage::Usage;
-use std::alloc::Global;
+use std::alloc::{AllocError, Global};
 use std::marker::{Brand, Model};
 use std::sync::{Mutex, Wait};
 
@@ -119,6 +119,18 @@ pub(crate) fn begun<N: RoundName>(alloc: Global, book: Book<N>, tie: Tie<N>) -> 
 {
     let layer_inodes = book.layer_inodes();
     known::<N, Brand>(alloc, book, tie, layer_inodes)
+}
+
+// The texts and the labels of a commit, for its entry.
+fn copies(
+    alloc: Global,
+    name: &str,
+    lease: &Option<Text>,
+    labels: &Option<Labels>,
+) -> Result<(Text, Option<Text>, Option<Labels>), AllocError>
+    ensures { IfOk result (λ copies. copies ≡ (name.now, lease.now, labels.now)) }
+{
+    Ok((Text::copy_of(alloc, name)?, lease.clone()?, labels.clone()?))
 }
 
 impl<N: RoundName> Store<N> {
@@ -342,7 +354,7 @@ impl<N: RoundName> Store<N> {
     /// what its layer takes, in blocks of 4096 bytes and inodes.
     ///
     /// Refusals, after `JournalFull` and `OutOfMemory`: `BadArgument`, `AlreadyExists`, `NoLease`. Each gives
-    /// the snapshot back as it was.
+    /// the snapshot back as it was. The texts and the labels are copied before the lock is taken.
     pub fn commit<R: Wait>(
         &self,
         rt: &R,
@@ -361,6 +373,10 @@ impl<N: RoundName> Store<N> {
         if let Err(refused) = session.reserve(1) {
             return Err((refused.into(), sealed));
         }
+        let (name, lease, labels) = match copies(self.alloc, name, lease, labels) {
+            Ok(copies) => copies,
+            Err(refused) => return Err((refused.into(), sealed)),
+        };
         let mut locked = self.book.lock(rt);
         let Locked { book, tapes, .. } = &mut *locked;
         match book.commit(session.number(), name, lease, labels, sealed) {

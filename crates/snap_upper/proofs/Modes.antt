@@ -19,7 +19,7 @@ use Rattle.snap_usage.specs.declared.usage.Usage.{Usage}
 use Rattle.snap_layer.specs.Edits.{with_entry, with_new, with_body, with_mode, with_file_mode, HasMode, meta_with_mode}
 use Rattle.snap_layer.proofs.Looks.{Sets-with_entry}
 use Rattle.snap_layer.proofs.Laws.{Replaces-with_new, SetsBody-with_new, inode_count-with_mode, block_count-with_mode}
-use Rattle.snap_merge.specs.Objects.{Object, dir, file, symlink, seen, shown_body, AreLayers}
+use Rattle.snap_merge.specs.Objects.{Object, dir, file, seen, shown_body, AreLayers}
 use Rattle.snap_merge.specs.Walk.{walk_error}
 use Rattle.snap_merge.specs.declared.error.FsError.{FsError}
 use Rattle.snap_merge.specs.declared.error.FsError.TheVariants.{Invalid}

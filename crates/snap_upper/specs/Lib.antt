@@ -3,3 +3,4 @@ pub mod Memory
 pub mod Adding
 pub mod Changed
 pub mod Changes
+pub mod Ready

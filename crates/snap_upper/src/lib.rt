@@ -14,5 +14,5 @@ mod usage;
 
 pub use op::Op;
 pub use snap_merge::FsError;
-pub use upper::{apply, apply_within};
+pub use upper::{Ready, apply, apply_within, perform_op, prepare_op};
 pub use usage::{Planned, plan};

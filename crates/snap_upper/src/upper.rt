@@ -1,5 +1,5 @@
 // The upper layer, on which an operation is done.
-ghost use Rattle.std.specs.Prelude.{◌≡◌, ◌⊎◌, ◌∷◌, OnOk, OnErr, IfErr, Ok, Err, false, ℕ, List, Some, None, [], ◌++◌, is_some, true, IsSome};
+ghost use Rattle.std.specs.Prelude.{◌≡◌, ◌⊎◌, ◌∷◌, OnOk, OnErr, IfErr, IfOk, Ok, Err, false, ℕ, List, Some, None, [], ◌++◌, is_some, true, IsSome};
 ghost use Rattle.snap_path.specs.Memory.{no_memory};
 ghost use Rattle.snap_layer.specs.Layers.{IsLayer};
 ghost use Rattle.snap_layer.specs.Tree.{at, body};
@@ -18,6 +18,8 @@ ghost use Rattle.snap_upper.specs.After.{after, lists_names, within_share, limit
 ghost use Rattle.snap_upper.specs.Changed.{changed, Changes};
 ghost use Rattle.snap_upper.specs.Changes.{outcome, IsInPlace, IsReady, as_last, IsSound};
 ghost use Rattle.snap_upper.specs.Memory.{IsNoGrowth, TakesNoMemory};
+ghost use Rattle.snap_upper.specs.Ready.{IsReadyFor};
+ghost use Rattle.snap_upper.specs.declared.op.Op.{Op};
 
 use super::change::{Change, New};
 use super::names::{link, shift};
@@ -116,6 +118,51 @@ pub fn apply_within(
         return Err(FsError::NeedsCharge(need));
     }
     perform(layer, lowers, change)
+}
+
+/// An operation whose tests have passed on a layer, and what the layer takes after it. It is for this layer as it is.
+#[derive(Clone, Copy)]
+pub struct Ready<'a> {
+    change: Change<'a>,
+    /// How much the layer takes after the operation.
+    pub after: Usage,
+}
+
+/// Tests the operation on the layer, over the lower layers, which stand nearest first, and changes nothing. [`perform_op`]
+/// does it.
+///
+/// The errors are those of [`apply`] in the same order, `LayerFull` last; `OutOfMemory` as [`plan`](super::plan) answers
+/// it. So is the cost.
+pub fn prepare_op<'a>(layer: &Layer, lowers: &'a [Shared], op: &'a Op) -> Result<Ready<'a>, FsError>
+    ensures ok { IfOk result (λ ready. IsReadyFor ready op.now layer.now lowers.now) }
+    ensures error { IfErr result (λ e. (e ≡ FsError.OutOfMemory no_memory) ⊎ (after op.now layer.now lowers.now ≡ Err e)) }
+    // Where no names are listed, want of memory never stands for another error.
+    ensures sure { lists_names op.now (layer.now ∷ lowers.now) ≡ false → IfErr result (λ e. after op.now layer.now lowers.now ≡ Err e) }
+{
+    let change = rule(layer, lowers, op)?;
+    let planned = weigh(layer, lowers, change)?;
+    Ok(Ready {
+        change,
+        after: planned.after,
+    })
+}
+
+/// Does the operation that was tested on the layer.
+///
+/// `OutOfMemory` where a growth was refused; the layer is then as it was. It takes no memory where [`apply`] takes none.
+/// The cost is that of `apply`, without its tests.
+pub fn perform_op(layer: &mut Layer, lowers: &[Shared], ready: Ready<'_>) -> Result<(), FsError>
+    requires { (op : Op) × IsReadyFor ready op layer.old lowers.now }
+    ensures ok { OnOk result ((op : Op) → IsReadyFor ready.entry op layer.old lowers.now → after op layer.old lowers.now ≡ Ok layer.new) }
+    ensures count { OnOk result (count_of layer.new ≡ ready.entry.after) }
+    // What is seen changes as that of the operation.
+    ensures view { OnOk result ((op : Op) → IsReadyFor ready.entry op layer.old lowers.now → changed op layer.old (seen (layer.old ∷ lowers.now)) (seen (layer.new ∷ lowers.now))) }
+    ensures error { IfErr result (λ e. e ≡ FsError.OutOfMemory no_memory) }
+    ensures unchanged { OnErr result (layer.new ≡ layer.old) }
+    // It is never refused memory where the operation takes none.
+    ensures sure { OnErr result ((op : Op) → IsReadyFor ready.entry op layer.old lowers.now → TakesNoMemory op layer.old → ⊥) }
+{
+    perform(layer, lowers, ready.change)
 }
 
 /// Does the change to the layer.

@@ -28,13 +28,13 @@ use Rattle.snap_upper.specs.After.{Outcome, lists_names}
 use Rattle.snap_book.specs.Files.{worked}
 use Rattle.snap_book.specs.Active.{ActiveValue, fresh}
 use Rattle.snap_accounts.specs.Entries.{IsPlain}
-use Rattle.snap_book.specs.Book.{BookValue, AnsweredBy, Recorded}
+use Rattle.snap_book.specs.Book.{BookValue, AnsweredBy, IsCommit, Recorded}
 use Rattle.snap_world.specs.declared.step.Answer.{Answer}
 use Rattle.snap_world.specs.declared.step.Answer.TheVariants as answers
 use Rattle.snap_world.specs.declared.step.Step.TheVariants as steps
 use Rattle.snap_world.specs.World.{HandValue, WorldValue, Fits, hand_at, with_hand, world_of}
-use Rattle.snap_world.specs.Move.{called, charged, committed_hand, with_outcome, new_hand, is_its_session, is_under, is_unsealed, meets, with_prepared, recorded, sealed_hand}
-use Rattle.snap_world.specs.Runs.{CanWant, DoesCall, Moves}
+use Rattle.snap_world.specs.Move.{called, charged, committed_hand, with_outcome, new_hand, is_its_session, is_under, is_unsealed, is_working, meets, with_prepared, recorded, sealed_hand}
+use Rattle.snap_world.specs.Runs.{CanWant, DoesCall, IsLeft, Moves}
 use Rattle.snap_world.proofs.Ends.{ends}
 use Rattle.snap_world.proofs.Hold.{placed, under-id}
 use Rattle.snap_world.proofs.Places.{with_hand-twice, back_again}
@@ -68,12 +68,12 @@ trim_does old new hands out after slot n id a b reply fits at under answered is 
     (subst (λ (k : ℕ). AnsweredBy old new n (calls.Trim k a.share.id) (Count (count_of a.layer)) reply) slot_is answered) in
     charges old new hands out after slot n id (calls.Trim slot id) (λ g. Count (count_of g.snapshot.layer)) a b reply at under here is full gone back
 
-pub commit_does : (old new : BookValue) (hands out after : List (Option HandValue)) (slot n id : ℕ) (name : Bytes) (lease : Option Bytes) (labels : Option (List Label)) (h : HandValue) (a : ActiveValue) (reply : Reply)
+committed_does : (old new : BookValue) (hands out after : List (Option HandValue)) (slot n id : ℕ) (name : Bytes) (lease : Option Bytes) (labels : Option (List Label)) (h : HandValue) (a : ActiveValue) (reply : Reply)
     → hand_at slot hands ≡ Some h → is_under id h ≡ true → a ≡ h.snapshot
     → AnsweredBy old new n (calls.Commit slot id name lease labels) (Layer a.layer) reply → (reply ≡ Refused JournalFull) ↔ (old.limit ≤ length old.journal + open_count old.state.records)
     → out ≡ with_hand slot None hands → after ≡ with_hand slot (committed_hand a reply) out
     → DoesCall (world_of old hands) n (calls.Commit slot id name lease labels) (answers.Reply reply) (world_of new after)
-commit_does old new hands out after slot n id name lease labels h a reply at under is answered full gone back =
+committed_does old new hands out after slot n id name lease labels h a reply at under is answered full gone back =
     let call : Call = calls.Commit slot id name lease labels in
     let f : Reply → List (Option HandValue) = λ r. with_hand slot (committed_hand h.snapshot r) hands in
     let left : after ≡ f reply = back ∙ (ap (λ (l : List (Option HandValue)). with_hand slot (committed_hand a reply) l) gone
@@ -84,6 +84,20 @@ commit_does old new hands out after slot n id name lease labels h a reply at und
     (λ e. inl (found (world_of old hands) slot (is_under id) _ h at under ∙ e))
     (λ e. inr (ap answers.Reply e.0, inr (ap (meets (is_under id)) at ∙ under, e.1, λ i. world_of (e.2 i) ((left ∙ (ap f e.0 ∙ ap (λ (o : Option HandValue). with_hand slot (option_map (λ g. sealed_hand g.snapshot) o) hands) (sym at))) i))))
     (admits old new hands after (f (Refused JournalFull)) 1 n call (Layer h.snapshot.layer) f reply (ends old new n call (Layer h.snapshot.layer) reply here) full_here left refl)
+
+-- the same by the call that says it
+pub commit_does : (old new : BookValue) (hands out after : List (Option HandValue)) (slot n id : ℕ) (call : Call) (h : HandValue) (a : ActiveValue) (reply : Reply) → IsCommit slot id call
+    → hand_at slot hands ≡ Some h → is_under id h ≡ true → a ≡ h.snapshot
+    → AnsweredBy old new n call (Layer a.layer) reply → (reply ≡ Refused JournalFull) ↔ (old.limit ≤ length old.journal + open_count old.state.records)
+    → out ≡ with_hand slot None hands → after ≡ with_hand slot (committed_hand a reply) out
+    → DoesCall (world_of old hands) n call (answers.Reply reply) (world_of new after)
+commit_does old new hands out after slot n id call h a reply (name, lease, labels, is) at under same answered full gone back =
+    subst (λ (k : Call). DoesCall (world_of old hands) n k (answers.Reply reply) (world_of new after)) (sym is)
+    (committed_does old new hands out after slot n id name lease labels h a reply at under same (subst (λ (k : Call). AnsweredBy old new n k (Layer a.layer) reply) is answered) full gone back)
+
+-- what want of memory for the seal of a hand leaves
+pub unsealed_left : (old new : WorldValue) (call : Call) (slot id : ℕ) → IsCommit slot id call → meets (is_working id) (hand_at slot old.hands) ≡ true → new ≡ old → IsLeft old call new
+unsealed_left old new call slot id (name, lease, labels, is) working same = subst (λ (k : Call). IsLeft old k new) (sym is) (inl (working, same))
 
 pub plain_does : (old new : BookValue) (hands : List (Option HandValue)) (n : ℕ) (call : Call) (reply : Reply) → IsPlain call → AnsweredBy old new n call Nothing reply
     → (reply ≡ Refused JournalFull) ↔ (old.limit ≤ length old.journal + open_count old.state.records) → DoesCall (world_of old hands) n call (answers.Reply reply) (world_of new hands)
@@ -170,7 +184,7 @@ certain op layers (Ok next) e b lists first = inl tt
 certain op layers (Err x) e true lists first = inl lists
 certain op layers (Err x) e false lists first = inr (ap (λ (y : FsError). Err y) (sym (same_error e x (first lists))))
 
-file_errs : (b : BookValue) (hands after : List (Option HandValue)) (slot : ℕ) (op : Op) (a : ActiveValue) (e : FsError) → hand_at slot hands ≡ Some (record { snapshot = a; sealed = false }) → worked op a.share.usage a.layer a.lowers ≡ Err e
+pub file_errs : (b : BookValue) (hands after : List (Option HandValue)) (slot : ℕ) (op : Op) (a : ActiveValue) (e : FsError) → hand_at slot hands ≡ Some (record { snapshot = a; sealed = false }) → worked op a.share.usage a.layer a.lowers ≡ Err e
     → after ≡ hands → Moves (world_of b hands) (steps.Hand slot op) (answers.File (Err e)) (world_of b after)
 file_errs b hands after slot op a e at err left =
     let h : HandValue = record { snapshot = a; sealed = false } in

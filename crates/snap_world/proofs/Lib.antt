@@ -6,6 +6,7 @@ mod Steps
 mod Hold
 mod Does
 pub mod Fitting
+pub mod Applying
 mod Opened
 mod Rounds
 pub mod Putting
@@ -15,3 +16,4 @@ mod Whole
 mod Ending
 mod InTurn
 mod BackWorld
+mod HeldLaws

@@ -2,10 +2,12 @@ pub mod World
 pub mod Hand
 pub mod Move
 pub mod Runs
+pub mod Applied
 pub mod Stacks
 pub mod Layers
 pub mod Quota
 pub mod Sums
 pub mod Round
 pub mod Saved
+pub mod Held
 pub mod Restored

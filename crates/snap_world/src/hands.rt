@@ -2,40 +2,38 @@
 ghost use Rattle.std.specs.Prelude.{◌≡◌, ◌<◌, ◌≤◌, ◌+◌, ◌^◌, false, true, replicate, Some, None, IfOk, IfErr, OnErr, OnOk, IfSome, MatchOption, option_copied, length};
 ghost use Rattle.snap_usage.specs.Counted.{count_of};
 ghost use Rattle.snap_book.specs.Held.{share_of};
-ghost use Rattle.snap_world.specs.World.{hand_at, with_hand};
+ghost use Rattle.snap_world.specs.World.{Fits, hand_at, with_hand, world_of};
+ghost use Rattle.snap_world.specs.Applied.{Applies, HandApplied, PlaceApplied};
 ghost use Rattle.snap_world.specs.Move.{is_under, is_unsealed, is_working, meets};
 ghost use Rattle.snap_world.specs.Layers.{MayHave, layer_put, open_layer};
 ghost use Rattle.snap_world.specs.Stacks.{layers_in};
 ghost use Rattle.snap_world.specs.Sums.{spare_in};
 
+use crate::applied::{Changed, Unapplied};
 use snap_accounts::Accounts;
-use snap_book::{Active, Book, Held, Sealed};
+use snap_book::{Active, Book, Held, OpFault, Sealed};
 use snap_layer::Layer;
 use snap_ledger::StoreName;
 use snap_merge::Stack;
 use snap_path::NoMemory;
+use snap_upper::Op;
 use snap_usage::{Usage, difference};
 use std::alloc::{AllocError, Global};
 use std::marker::Model;
 use std::mem;
 
-// An open snapshot, sealed or not, and its id.
+// An open snapshot, sealed or not.
 pub(crate) struct Hand<N: StoreName> {
-    id: u32,
     held: Held<N>,
 }
 
 impl<N: StoreName> Model for Hand<N> {
-    ghost use Rattle.std.specs.Prelude.{◌≡◌};
-    ghost use Rattle.snap_book.specs.Held.{share_of};
     ghost use Rattle.snap_world.specs.World.{HandValue};
     ghost use Rattle.snap_world.specs.Hand.{hand_of};
 
     ghost Value = { HandValue };
 
     ghost view = { λ h. hand_of h.held };
-
-    ghost invariant = { λ h. h.id ≡ (share_of h.held).id };
 }
 
 impl<N: StoreName> Hand<N> {
@@ -43,20 +41,16 @@ impl<N: StoreName> Hand<N> {
     pub(crate) fn of(active: Active<N>) -> Hand<N>
         ensures { result ≡ record { snapshot = active; sealed = false } }
     {
-        let id = active.id();
         Hand {
-            id,
             held: Held::Active(active),
         }
     }
 
     // A sealed one.
-    pub(crate) fn of_sealed(id: u32, sealed: Sealed<N>) -> Hand<N>
-        requires { id ≡ sealed.share.id }
+    pub(crate) fn of_sealed(sealed: Sealed<N>) -> Hand<N>
         ensures { result ≡ record { snapshot = sealed; sealed = true } }
     {
         Hand {
-            id,
             held: Held::Sealed(sealed),
         }
     }
@@ -65,7 +59,10 @@ impl<N: StoreName> Hand<N> {
     pub(crate) fn is_under(&self, id: u32) -> bool
         ensures { result ≡ is_under id self.now }
     {
-        self.id == id
+        match &self.held {
+            Held::Active(active) => active.id() == id,
+            Held::Sealed(sealed) => sealed.id() == id,
+        }
     }
 
     // The place of its namespace.
@@ -148,11 +145,37 @@ impl<N: StoreName> Hand<N> {
         }
     }
 
+    // An operation, with the charge that it needs.
+    pub(crate) fn apply(
+        &mut self,
+        book: &mut Book<N>,
+        session: u64,
+        id: u32,
+        op: &Op,
+        extra: Usage,
+    ) -> Result<Changed, Unapplied>
+        ensures { HandApplied book.old book.new session id self.old self.new op.now extra result }
+    {
+        let Held::Active(active) = &mut self.held else {
+            return Err(Unapplied::NoHand);
+        };
+        match book.apply(session, id, active, op, extra) {
+            Ok(count) => Ok(Changed {
+                count,
+                share: active.share(),
+            }),
+            Err(OpFault::File(error)) => Err(Unapplied::File(error)),
+            Err(OpFault::Book(why)) => Err(Unapplied::Charge(why)),
+            Err(OpFault::NoSession) => Err(Unapplied::NoSession),
+            Err(OpFault::OtherId) => Err(Unapplied::NoHand),
+        }
+    }
+
     // What is given back to the book.
     pub(crate) fn into_held(self) -> Held<N>
         ensures { share_of result ≡ self.snapshot.share }
     {
-        let Hand { id: _, held } = self;
+        let Hand { held } = self;
         held
     }
 
@@ -162,17 +185,31 @@ impl<N: StoreName> Hand<N> {
         ensures err { IfErr result (λ back. back.1 ≡ self) }
         ensures unsealed { OnErr result (self.sealed ≡ false) }
     {
-        let Hand { id, held } = self;
+        let Hand { held } = self;
         match held {
             Held::Active(active) => match active.seal() {
                 Ok(sealed) => Ok(sealed),
-                Err((no_memory, active)) => {
-                    let held = Held::Active(active);
-                    Err((no_memory, Hand { id, held }))
-                }
+                Err((no_memory, active)) => Err((no_memory, Hand::of(active))),
             },
             Held::Sealed(sealed) => Ok(sealed),
         }
+    }
+}
+
+// An operation on the hand of a place, if one stands there.
+fn apply_at<N: StoreName>(
+    place: &mut Option<Hand<N>>,
+    book: &mut Book<N>,
+    session: u64,
+    id: u32,
+    op: &Op,
+    extra: Usage,
+) -> Result<Changed, Unapplied>
+    ensures { PlaceApplied book.old book.new session id place.old place.new op.now extra result }
+{
+    match place {
+        Some(hand) => hand.apply(book, session, id, op, extra),
+        None => Err(Unapplied::NoHand),
     }
 }
 
@@ -255,11 +292,11 @@ impl<N: StoreName> Hands<N> {
     pub(crate) fn take_working(&mut self, slot: u64, id: u32) -> Option<Active<N>>
         ensures { MatchOption result ((meets (is_working id) (hand_at slot self.old) ≡ false) × (self.new ≡ self.old)) (λ a. (hand_at slot self.old ≡ Some (record { snapshot = a; sealed = false })) × (is_under id (record { snapshot = a; sealed = false }) ≡ true) × (slot < length self.new) × (self.new ≡ with_hand slot None self.old)) }
     {
-        let Hand { id, held } = self.take_under(slot, id)?;
+        let Hand { held } = self.take_under(slot, id)?;
         match held {
             Held::Active(active) => Some(active),
             Held::Sealed(sealed) => {
-                self.put(slot, Hand::of_sealed(id, sealed));
+                self.put(slot, Hand::of_sealed(sealed));
                 None
             }
         }
@@ -269,13 +306,34 @@ impl<N: StoreName> Hands<N> {
     pub(crate) fn take_unsealed(&mut self, slot: u64) -> Option<Active<N>>
         ensures { MatchOption result ((meets is_unsealed (hand_at slot self.old) ≡ false) × (self.new ≡ self.old)) (λ a. (hand_at slot self.old ≡ Some (record { snapshot = a; sealed = false })) × (slot < length self.new) × (self.new ≡ with_hand slot None self.old)) }
     {
-        let Hand { id, held } = self.take(slot)?;
+        let Hand { held } = self.take(slot)?;
         match held {
             Held::Active(active) => Some(active),
             Held::Sealed(sealed) => {
-                self.put(slot, Hand::of_sealed(id, sealed));
+                self.put(slot, Hand::of_sealed(sealed));
                 None
             }
+        }
+    }
+
+    // An operation on the snapshot in the slot, with the charge that it needs.
+    pub(crate) fn apply(
+        &mut self,
+        book: &mut Book<N>,
+        session: u64,
+        slot: u64,
+        id: u32,
+        op: &Op,
+        extra: Usage,
+    ) -> Result<Changed, Unapplied>
+        requires { Fits (world_of book.old self.old) }
+        ensures { Applies (world_of book.old self.old) session slot id op.now extra result (world_of book.new self.new) }
+    {
+        let place = slot as usize;
+        if place < self.list.len() {
+            apply_at(&mut self.list[place], book, session, id, op, extra)
+        } else {
+            Err(Unapplied::NoHand)
         }
     }
 

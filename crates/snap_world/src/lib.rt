@@ -4,6 +4,7 @@
 //! in `specs/Move.antt`.
 #![tactic(auto)]
 
+mod applied;
 mod fault;
 mod hands;
 mod layer;
@@ -16,11 +17,12 @@ mod save;
 mod step;
 mod world;
 
+pub use applied::{Changed, Unapplied};
 pub use fault::RestoreFault;
 pub use quota::Quota;
 pub use restoring::{Restoring, SavedHand};
 pub use round::ReopenFault;
-pub use save::{SavedSnapshot, SavedWorld};
+pub use save::{HeldSnapshot, HeldWorld, SavedSnapshot, SavedWorld};
 pub use snap_call::{
     Call, Config, ConfigField, Entry, Given, Namespace, Refusal, Reply, Saved, SavedContent,
     SavedLease, SharedEntry,

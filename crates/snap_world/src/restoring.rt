@@ -221,12 +221,11 @@ fn hand_of<N: StoreName>(active: Active<N>, sealed: bool) -> Result<Hand<N>, (No
     ensures ok { IfOk result (λ h. h ≡ record { snapshot = active; sealed = sealed }) }
     ensures err { IfErr result (λ back. back.1 ≡ record { snapshot = active; sealed = false }) }
 {
-    let id = active.id();
     if !sealed {
         return Ok(Hand::of(active));
     }
     match active.seal() {
-        Ok(sealed) => Ok(Hand::of_sealed(id, sealed)),
+        Ok(sealed) => Ok(Hand::of_sealed(sealed)),
         Err((no_memory, active)) => Err((no_memory, Hand::of(active))),
     }
 }

@@ -36,7 +36,7 @@ impl<N: StoreName> World<N> {
     ///
     /// `StillOut` where a snapshot is open, and else the refusal of
     /// [`Book::next_round`](snap_book::Book::next_round); the world is then as it was. No entry is made.
-    /// Takes no memory. The cost is that of dropping the entries of the round that ends.
+    /// Memory and cost are those of that call.
     pub fn reopen(&mut self, journal: u64) -> Result<(), ReopenFault>
         ensures answer { result ≡ reopen_answer self.old journal }
         ensures began { OnOk result (self.new ≡ reopened self.old journal) }
@@ -56,7 +56,7 @@ impl<N: StoreName> World<N> {
     ///
     /// The refusals are those of [`Book::roll`](snap_book::Book::roll), `JournalFull` among them where the new
     /// journal has no room for an entry for the end of each open snapshot and one more; the world is then as it was. No
-    /// entry is made. Takes no memory. The cost is that of dropping the entries of the round that ends.
+    /// entry is made. Memory and cost are those of that call.
     pub fn roll(&mut self, journal: u64) -> Result<(), Refusal>
         ensures answer { result ≡ roll_answer self.old.state journal }
         ensures began { OnOk result (self.new ≡ reopened self.old journal) }

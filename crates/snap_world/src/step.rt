@@ -6,11 +6,10 @@ ghost use Rattle.snap_call.specs.declared.call.Call.TheVariants as calls;
 ghost use Rattle.snap_call.specs.declared.call.Given.TheVariants.{Nothing, Count, Layer as LayerGiven};
 ghost use Rattle.snap_call.specs.declared.refusal.Refusal.TheVariants.{JournalFull};
 ghost use Rattle.snap_call.specs.declared.reply.Reply.TheVariants as replies;
-ghost use Rattle.snap_book.specs.Book.{AnsweredBy, BookValue};
+ghost use Rattle.snap_book.specs.Book.{AnsweredBy, BookValue, IsCommit};
 ghost use Rattle.snap_world.specs.Move.{charged, committed_hand, is_its_session, with_prepared};
 ghost use Rattle.snap_call.specs.State.{place_of};
 ghost use Rattle.snap_accounts.specs.Entries.{IsPlain};
-ghost use Rattle.snap_world.specs.declared.step.Step.TheVariants.{Locked};
 ghost use Rattle.snap_world.specs.World.{Fits, hand_at, with_hand, world_of};
 ghost use Rattle.snap_world.specs.Runs.{DoesCall, Moves};
 ghost use Rattle.snap_world.specs.declared.step.Step.TheVariants as steps;
@@ -86,7 +85,7 @@ pub(crate) fn trim_active<N: StoreName>(
 }
 
 // The call is by its session: a session to be opened has the next number, and any other is open.
-fn is_its_session(sessions: u64, session: u64, call: &Call) -> bool
+pub(crate) fn is_its_session(sessions: u64, session: u64, call: &Call) -> bool
     ensures { result ≡ is_its_session sessions session call.now }
 {
     match call {
@@ -199,49 +198,38 @@ impl<N: StoreName> Hands<N> {
         book: &mut Book<N>,
         session: u64,
         slot: u64,
-        id: u32,
-        name: &str,
-        lease: &Option<Text>,
-        labels: &Option<Labels>,
+        call: Call,
         sealed: Sealed<N>,
     ) -> Reply
         requires low { slot < length self.old }
         requires free { hand_at slot self.old ≡ None }
         requires slot { sealed.share.slot ≡ slot }
-        requires id { sealed.share.id ≡ id }
-        ensures answered { AnsweredBy book.old book.new session (calls.Commit slot id name.now lease.now labels.now) (LayerGiven sealed.layer) result }
+        requires commit { IsCommit sealed.share.slot sealed.share.id call }
+        ensures answered { AnsweredBy book.old book.new session call (LayerGiven sealed.layer) result }
         ensures hands { self.new ≡ with_hand slot (committed_hand sealed result) self.old }
         ensures full { (result ≡ replies.Refused JournalFull) ↔ (book.old.limit ≤ length book.old.journal + open_count book.old.state.records) }
     {
-        match book.commit(session, name, lease, labels, sealed) {
+        let id = sealed.id();
+        match book.commit_as(session, call, sealed) {
             Ok(usage) => Reply::Committed { id, usage },
             Err((why, sealed)) => {
-                self.put(slot, Hand::of_sealed(id, sealed));
+                self.put(slot, Hand::of_sealed(sealed));
                 Reply::Refused(why)
             }
         }
     }
 
-    fn commit(
-        &mut self,
-        book: &mut Book<N>,
-        session: u64,
-        slot: u64,
-        id: u32,
-        name: &str,
-        lease: &Option<Text>,
-        labels: &Option<Labels>,
-    ) -> Answer
-        requires { Fits (world_of book.old self.old) }
-        ensures { DoesCall (world_of book.old self.old) session (calls.Commit slot id name.now lease.now labels.now) result (world_of book.new self.new) }
+    // The call is a commit of the snapshot in the slot.
+    fn commit(&mut self, book: &mut Book<N>, session: u64, slot: u64, id: u32, call: Call) -> Answer
+        requires fits { Fits (world_of book.old self.old) }
+        requires commit { IsCommit slot id call }
+        ensures { DoesCall (world_of book.old self.old) session call result (world_of book.new self.new) }
     {
         let Some(hand) = self.take_under(slot, id) else {
             return Answer::NoHand;
         };
         match hand.seal() {
-            Ok(sealed) => {
-                Answer::Reply(self.settle(book, session, slot, id, name, lease, labels, sealed))
-            }
+            Ok(sealed) => Answer::Reply(self.settle(book, session, slot, call, sealed)),
             Err((no_memory, hand)) => {
                 self.put(slot, hand);
                 Answer::Reply(Reply::Refused(Refusal::OutOfMemory(no_memory)))
@@ -261,7 +249,7 @@ impl<N: StoreName> Hands<N> {
     }
 
     // A call in its session.
-    fn call(&mut self, book: &mut Book<N>, session: u64, call: Call) -> Answer
+    pub(crate) fn call(&mut self, book: &mut Book<N>, session: u64, call: Call) -> Answer
         requires fits { Fits (world_of book.old self.old) }
         requires session { is_its_session book.old.state.sessions session call ≡ true }
         ensures { DoesCall (world_of book.old self.old) session call result (world_of book.new self.new) }
@@ -281,27 +269,10 @@ impl<N: StoreName> Hands<N> {
                 want,
             } => self.charge(book, session, *slot, *id, *need, *want),
             Call::Trim { slot, id } => self.trim(book, session, *slot, *id),
-            Call::Commit {
-                slot,
-                id,
-                name,
-                lease,
-                labels,
-            } => self.commit(book, session, *slot, *id, name.as_str(), lease, labels),
+            Call::Commit { slot, id, .. } => self.commit(book, session, *slot, *id, call),
             Call::Discard { slot, id } => self.discard(book, session, *slot, *id),
             _ => self.plain(book, session, call),
         }
-    }
-
-    // A call of the session.
-    pub(crate) fn locked(&mut self, book: &mut Book<N>, session: u64, call: Call) -> Answer
-        requires { Fits (world_of book.old self.old) }
-        ensures { Moves (world_of book.old self.old) (Locked session call) result (world_of book.new self.new) }
-    {
-        if !is_its_session(book.sessions(), session, &call) {
-            return Answer::NoSession;
-        }
-        self.call(book, session, call)
     }
 
     // An operation on the layer of the slot's snapshot. No book takes part in it.

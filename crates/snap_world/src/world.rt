@@ -14,11 +14,13 @@ ghost use Rattle.snap_history.specs.Changes.{no_shares};
 ghost use Rattle.snap_history.specs.Open.{shares_of};
 ghost use Rattle.snap_world.specs.declared.step.Step.TheVariants.{Hand, Locked};
 ghost use Rattle.snap_world.specs.World.{Fits, hand_at};
+ghost use Rattle.snap_world.specs.Applied.{Applies};
 ghost use Rattle.snap_world.specs.Runs.{Moves, Runs};
 ghost use Rattle.snap_world.specs.Stacks.{IsOver, stack_of};
 
+use crate::applied::{Changed, Unapplied};
 use crate::hands::Hands;
-use crate::step::{Answer, Step};
+use crate::step::{Answer, Step, is_its_session};
 use snap_book::Book;
 use snap_call::{Call, Config, Records, Refusal, SharedEntry, State};
 use snap_history::Shares;
@@ -86,7 +88,10 @@ impl<N: StoreName> World<N> {
         ensures moves { Moves self.old (Locked session call) result self.new }
         ensures fits { Fits self.new }
     {
-        self.hands.locked(&mut self.book, session, call)
+        if !is_its_session(self.book.sessions(), session, &call) {
+            return Answer::NoSession;
+        }
+        self.hands.call(&mut self.book, session, call)
     }
 
     /// An operation on the layer of the slot's snapshot: its answer, as [`World::run`] has it for
@@ -99,6 +104,30 @@ impl<N: StoreName> World<N> {
         ensures fits { Fits self.new }
     {
         self.hands.file(slot, op)
+    }
+
+    /// An operation on the layer of the slot's snapshot, by the session of this number. Where its charge doesn't cover
+    /// what the layer takes afterwards, it is charged for that first, and for an extra amount too where the limit
+    /// covers it. The answer is what the layer takes now and what the slot is charged. The world is then as these
+    /// steps leave it one after another: the operation, the charge, and the operation again.
+    ///
+    /// Errors, in this order: `NoHand` where the slot isn't open or its layer is sealed; the operation's own; and where
+    /// it needs a charge, `NoSession`, `NoHand` for another id, and the refusal of the charge. After each the layer is as
+    /// it was, and so is all else but for the entry of a refused charge; where memory is refused after the charge was
+    /// granted, that stays as spare. The cost is that of [`Book::apply`](snap_book::Book::apply).
+    pub fn apply(
+        &mut self,
+        session: u64,
+        slot: u64,
+        id: u32,
+        op: &Op,
+        extra: Usage,
+    ) -> Result<Changed, Unapplied>
+        ensures applies { Applies self.old session slot id op.now extra result self.new }
+        ensures fits { Fits self.new }
+    {
+        self.hands
+            .apply(&mut self.book, session, slot, id, op, extra)
     }
 
     // One step.

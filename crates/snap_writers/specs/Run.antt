@@ -11,16 +11,13 @@ use Rattle.snap_call.specs.declared.reply.Reply.TheVariants.{Charged}
 use Rattle.snap_upper.specs.declared.op.Op.{Op}
 use Rattle.snap_upper.specs.After.{Outcome, after, lists_names}
 use Rattle.snap_book.specs.Active.{ActiveValue}
+use Rattle.snap_book.specs.Applied.{with_layer_and_share}
 use Rattle.snap_book.specs.Files.{worked}
 use Rattle.snap_book.specs.Wanted.{needed_by, wanted_charge}
 use Rattle.snap_tape.specs.Tapes.{RefusedOn, SessionValue, Taped}
 use Rattle.snap_store.specs.Values.{IsChargedTo}
 use Rattle.snap_writers.specs.declared.running.RunError.{RunError}
 use Rattle.snap_writers.specs.declared.running.RunError.TheVariants.{File, Book}
-
--- the snapshot with this layer, and with a share of `now`; all else stays
-abbrev pub with_layer_and_share : ActiveValue → Tree → Usage → ActiveValue
-with_layer_and_share a layer now = record { namespace = a.namespace; key = a.key; lowers = a.lowers; layer = layer; share = record a.share { usage = now } }
 
 -- the charge was made: its entry is on the tape, and the share is the wanted amount, or else the needed one
 pub record IsCharged (s t : SessionValue) (a : ActiveValue) (need want now : Usage) : Type 0 where

@@ -1,10 +1,11 @@
 // Records of one namespace whose keys begin alike.
-ghost use Rattle.std.specs.Prelude.{◌≡◌, ℕ, [], ◌∷◌, ◌++◌, length, false, map, option_copied, OnOk, OnErr, IfErr, IfOk, IsTrue, ◌↔◌};
+ghost use Rattle.std.specs.Prelude.{◌≡◌, Some, ℕ, [], ◌∷◌, ◌++◌, length, false, map, option_copied, OnOk, OnErr, IfErr, IfOk, IsTrue, ◌↔◌};
 ghost use Rattle.std.specs.Map.{values_of};
 ghost use Rattle.snap_call.specs.Records.{record_at, has_key, with_record, without_key};
-ghost use Rattle.snap_call.specs.Spaces.{IsOf, IsKeyed, page_after, edited_at};
+ghost use Rattle.snap_call.specs.Spaces.{IsOf, IsKeyed, IsEditOf, page_after, edited_at};
+ghost use Rattle.snap_record.specs.declared.record.Record.{Record};
 
-use super::boxed_record::BoxedRecord;
+use crate::held_record::HeldRecord;
 use crate::record_edit::RecordEdit;
 use snap_path::NoMemory;
 use snap_record::{Filter, Info, Record, Sequence};
@@ -19,8 +20,8 @@ use std::ops::Bound;
 /// A record that is alone stands beside the map of several by their keys, which then takes no memory.
 #[derive(Drop)]
 pub(super) struct Group {
-    alone: Option<BoxedRecord>,
-    others: BTreeMap<String, BoxedRecord>,
+    alone: Option<HeldRecord>,
+    others: BTreeMap<String, HeldRecord>,
 }
 
 impl Model for Group {
@@ -39,7 +40,7 @@ impl Model for Group {
 
 impl Group {
     /// The record alone. Takes no memory.
-    pub(super) fn of(alloc: Global, alone: BoxedRecord) -> Group
+    pub(super) fn of(alloc: Global, alone: HeldRecord) -> Group
         ensures { result ≡ alone ∷ [] }
     {
         Group {
@@ -49,7 +50,7 @@ impl Group {
     }
 
     /// The record of a group that has no other. Takes no memory.
-    pub(super) fn into_only(self) -> BoxedRecord
+    pub(super) fn into_only(self) -> HeldRecord
         requires { length self ≡ 1 }
         ensures { self ≡ result ∷ [] }
     {
@@ -90,8 +91,8 @@ impl Group {
     pub(super) fn insert(
         &mut self,
         alloc: Global,
-        added: BoxedRecord,
-    ) -> Result<(), (NoMemory, BoxedRecord)>
+        added: HeldRecord,
+    ) -> Result<(), (NoMemory, HeldRecord)>
         requires of { IsOf added.namespace self.old }
         requires absent { has_key added.namespace added.key self.old ≡ false }
         ensures ok { OnOk result (self.new ≡ with_record added self.old) }
@@ -109,7 +110,7 @@ impl Group {
 
     /// Takes the record of this key away. Where there is none, the records are as they were. Takes
     /// no memory.
-    pub(super) fn remove(&mut self, key: &str) -> Option<BoxedRecord>
+    pub(super) fn remove(&mut self, key: &str) -> Option<HeldRecord>
         ensures taken { (place : ℕ) → IsOf place self.old → self.new ≡ without_key place key.now self.old }
         ensures record_taken { (place : ℕ) → IsOf place self.old → result ≡ record_at place key.now self.old }
     {
@@ -125,6 +126,7 @@ impl Group {
 
     /// Edits the record of this key. Where there is none, the records are as they were. Takes no memory.
     pub(super) fn edit(&mut self, key: &str, edit: RecordEdit)
+        requires { (place : ℕ) × IsOf place self.old × ((r : Record) → record_at place key.now self.old ≡ Some r → IsEditOf edit r) }
         ensures { (place : ℕ) → IsOf place self.old → self.new ≡ edited_at place key.now edit self.old }
     {
         let Some(alone) = &mut self.alone else {
@@ -179,16 +181,16 @@ impl Group {
     /// The list with references to the records after its own, in their order.
     pub(super) fn listed<'a>(
         &'a self,
-        before: Vec<&'a Record>,
-    ) -> Result<Vec<&'a Record>, AllocError>
+        before: Vec<&'a HeldRecord>,
+    ) -> Result<Vec<&'a HeldRecord>, AllocError>
         ensures { IfOk result (λ all. map (λ r. r.now) all.items ≡ map (λ r. r.now) before.entry.items ++ self.now) }
     {
         let mut list = before;
         if let Some(alone) = &self.alone {
-            list.push(alone.record())?;
+            list.push(alone)?;
         }
-        for boxed in self.others.values() {
-            list.push(boxed.record())?;
+        for held in self.others.values() {
+            list.push(held)?;
         }
         Ok(list)
     }
@@ -197,10 +199,10 @@ impl Group {
 /// Puts a record into a map of records of one namespace by their keys. Where memory is refused, the
 /// map is as it was and the error gives the record back.
 fn put(
-    map: &mut BTreeMap<String, BoxedRecord>,
+    map: &mut BTreeMap<String, HeldRecord>,
     alloc: Global,
-    added: BoxedRecord,
-) -> Result<(), (NoMemory, BoxedRecord)>
+    added: HeldRecord,
+) -> Result<(), (NoMemory, HeldRecord)>
     requires keyed { IsKeyed map.old.entries }
     requires of { IsOf added.namespace (values_of map.old.entries) }
     requires absent { has_key added.namespace added.key (values_of map.old.entries) ≡ false }

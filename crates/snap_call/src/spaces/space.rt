@@ -1,11 +1,12 @@
 // The records of one namespace.
-ghost use Rattle.std.specs.Prelude.{◌≡◌, ◌↔◌, IsTrue, ◌<◌, ◌+◌, ◌^◌, ℕ, [], ◌++◌, length, false, map, option_copied, OnOk, OnErr, IfErr, IfOk};
+ghost use Rattle.std.specs.Prelude.{◌≡◌, Some, ◌↔◌, IsTrue, ◌<◌, ◌+◌, ◌^◌, ℕ, [], ◌++◌, length, false, map, option_copied, OnOk, OnErr, IfErr, IfOk};
 ghost use Rattle.std.specs.Map.{values_of};
 ghost use Rattle.snap_call.specs.Records.{record_at, has_key, child_count, with_record, without_key, info_page};
-ghost use Rattle.snap_call.specs.Spaces.{IsOf, AreGroups, beginning, joined_records, edited_at};
+ghost use Rattle.snap_call.specs.Spaces.{IsOf, AreGroups, IsEditOf, beginning, joined_records, edited_at};
+ghost use Rattle.snap_record.specs.declared.record.Record.{Record};
 
-use super::boxed_record::BoxedRecord;
 use super::group::Group;
+use crate::held_record::HeldRecord;
 use crate::record_edit::RecordEdit;
 use arrayvec::ArrayVec;
 use snap_counts::Counts;
@@ -94,7 +95,7 @@ impl Space {
 
     /// Puts a record in its place. Where memory is refused, the records are as they were and the
     /// error gives the record back.
-    pub(super) fn insert(&mut self, added: Record) -> Result<(), (NoMemory, Record)>
+    pub(super) fn insert(&mut self, added: HeldRecord) -> Result<(), (NoMemory, HeldRecord)>
         requires of { IsOf added.namespace self.old }
         requires absent { has_key added.namespace added.key self.old ≡ false }
         requires few { length self.old + 1 < 2 ^ 64 }
@@ -102,13 +103,13 @@ impl Space {
         ensures err { OnErr result (self.new ≡ self.old) }
         ensures value_returned { IfErr result (λ back. back.1 ≡ added) }
     {
-        if let Err(refused) = self.parents.add(added.parent.as_str()) {
+        if let Err(refused) = self.parents.add(added.record().parent.as_str()) {
             return Err((refused.into(), added));
         }
         match put(&mut self.map, self.alloc, added) {
             Ok(()) => Ok(()),
             Err((no_memory, added)) => {
-                self.parents.take(added.parent.as_str());
+                self.parents.take(added.record().parent.as_str());
                 Err((no_memory, added))
             }
         }
@@ -116,17 +117,18 @@ impl Space {
 
     /// Takes the record of this key away. Where there is none, the records are as they were. Takes
     /// no memory.
-    pub(super) fn remove(&mut self, key: &str) -> Option<Record>
+    pub(super) fn remove(&mut self, key: &str) -> Option<HeldRecord>
         ensures taken { (place : ℕ) → IsOf place self.old → self.new ≡ without_key place key.now self.old }
         ensures record_taken { (place : ℕ) → IsOf place self.old → result ≡ record_at place key.now self.old }
     {
         let removed = take_out(&mut self.map, key)?;
-        self.parents.take(removed.parent.as_str());
+        self.parents.take(removed.record().parent.as_str());
         Some(removed)
     }
 
     /// Edits the record of this key. Where there is none, the records are as they were. Takes no memory.
     pub(super) fn edit(&mut self, key: &str, edit: RecordEdit)
+        requires { (place : ℕ) × IsOf place self.old × ((r : Record) → record_at place key.now self.old ≡ Some r → IsEditOf edit r) }
         ensures { (place : ℕ) → IsOf place self.old → self.new ≡ edited_at place key.now edit self.old }
     {
         let Some(group) = self.map.get_mut(&beginning_of(key)) else {
@@ -161,8 +163,8 @@ impl Space {
     /// The list with references to the records after its own, in their order.
     pub(crate) fn listed<'a>(
         &'a self,
-        before: Vec<&'a Record>,
-    ) -> Result<Vec<&'a Record>, AllocError>
+        before: Vec<&'a HeldRecord>,
+    ) -> Result<Vec<&'a HeldRecord>, AllocError>
         ensures { IfOk result (λ all. map (λ r. r.now) all.items ≡ map (λ r. r.now) before.entry.items ++ self.now) }
     {
         let mut list = before;
@@ -178,8 +180,8 @@ impl Space {
 fn put(
     map: &mut BTreeMap<Beginning, Group>,
     alloc: Global,
-    added: Record,
-) -> Result<(), (NoMemory, Record)>
+    added: HeldRecord,
+) -> Result<(), (NoMemory, HeldRecord)>
     requires groups { AreGroups map.old.entries }
     requires of { IsOf added.namespace (joined_records (values_of map.old.entries)) }
     requires absent { has_key added.namespace added.key (joined_records (values_of map.old.entries)) ≡ false }
@@ -188,25 +190,24 @@ fn put(
     ensures err { OnErr result (joined_records (values_of map.new.entries) ≡ joined_records (values_of map.old.entries)) }
     ensures value_returned { IfErr result (λ back. back.1 ≡ added) }
 {
-    let beginning = beginning_of(added.key.as_str());
-    let boxed = BoxedRecord::new(alloc, added)?;
+    let beginning = beginning_of(added.record().key.as_str());
     let Some(group) = map.get_mut(&beginning) else {
-        let alone = Group::of(alloc, boxed);
+        let alone = Group::of(alloc, added);
         let Err(failed) = map.insert(beginning, alone) else {
             return Ok(());
         };
         let (no_memory, (_, alone)) = NoMemory::with_value(failed);
-        return Err((no_memory, alone.into_only().into_record()));
+        return Err((no_memory, alone.into_only()));
     };
-    let Err((no_memory, boxed)) = group.insert(alloc, boxed) else {
+    let Err((no_memory, added)) = group.insert(alloc, added) else {
         return Ok(());
     };
-    Err((no_memory, boxed.into_record()))
+    Err((no_memory, added))
 }
 
 /// Takes the record of this key away from the map of a namespace, and its group where it was the last.
 /// Where there is none, the records are as they were. Takes no memory.
-fn take_out(map: &mut BTreeMap<Beginning, Group>, key: &str) -> Option<Record>
+fn take_out(map: &mut BTreeMap<Beginning, Group>, key: &str) -> Option<HeldRecord>
     requires { AreGroups map.old.entries }
     ensures groups { AreGroups map.new.entries }
     ensures taken { (place : ℕ) → IsOf place (joined_records (values_of map.old.entries)) → joined_records (values_of map.new.entries) ≡ without_key place key.now (joined_records (values_of map.old.entries)) }
@@ -218,5 +219,5 @@ fn take_out(map: &mut BTreeMap<Beginning, Group>, key: &str) -> Option<Record>
     if group.is_empty() {
         map.remove(&beginning);
     }
-    Some(removed.into_record())
+    Some(removed)
 }

@@ -4,7 +4,8 @@ use Rattle.snap_merge.specs.declared.error.FsError.TheVariants.{OutOfMemory}
 use Rattle.snap_usage.specs.declared.usage.Usage.{Usage}
 use Rattle.snap_book.specs.Active.{ActiveValue}
 use Rattle.snap_book.specs.Files.{worked}
-use Rattle.snap_writers.specs.Run.{IsCharged, with_layer_and_share}
+use Rattle.snap_book.specs.Applied.{with_layer_and_share}
+use Rattle.snap_writers.specs.Run.{IsCharged}
 use Rattle.snap_writers.proofs.Needing.{only_memory}
 use Rattle.snap_writers.proofs.running.charge_and_apply.Goals as goal
 

@@ -2,7 +2,7 @@ use Rattle.std.proofs.Common.{◌≡◌, ◌+◌, List, refl, sym, ap, ◌∙◌
 use Rattle.snap_record.specs.declared.record.Record.{Record}
 use Rattle.snap_call.specs.declared.state.State.{State}
 use Rattle.snap_call.specs.Good.{Good}
-use Rattle.snap_call.specs.Records.{open_count}
+use Rattle.snap_call.specs.Records.{open_count, with_record}
 use Rattle.snap_accounts.specs.Accounts.{AreAccounts}
 use Rattle.snap_accounts.specs.Changes.{IsNewView}
 use Rattle.snap_accounts.proofs.Accounting.{accounts_same}
@@ -21,13 +21,13 @@ pub invariant_of-self-2 : goal.invariant_of-self-2
 invariant_of-self-2 g c =
     let s = c.self.inside.state in
     let new : IsNewView s c.args.snapshot = subst (λ (u : State). IsNewView u c.args.snapshot) (sym c.self.view_is) c.requires.possible in
-    subst (λ (l : List Record). AreAccounts (record s { records = l; next_id = s.next_id + 1; entries = s.entries + 1 }) c.self.inside.totals c.self.inside.slots c.self.inside.opened) (sym c.in_default.ensures.ok)
+    subst (λ (l : List Record). AreAccounts (record s { records = l; next_id = s.next_id + 1; entries = s.entries + 1 }) c.self.inside.totals c.self.inside.slots c.self.inside.opened) (sym (c.in_default.ensures.ok ∙ ap (λ (r : Record). with_record r s.records) c.in_ok-held.ensures))
     (accounts_viewed s c.self.inside.totals c.self.inside.slots c.self.inside.opened c.args.snapshot c.self.invariant new)
 
 pub returns-clause-open : goal.returns-clause-open
 returns-clause-open g c =
     let s = c.self.inside.state in
-    ap open_count c.in_default.ensures.ok ∙ (open_count-view c.args.snapshot _ c.requires.possible.view s.records ∙ ap (λ (u : State). open_count u.records) c.self.view_is)
+    ap open_count (c.in_default.ensures.ok ∙ ap (λ (r : Record). with_record r s.records) c.in_ok-held.ensures) ∙ (open_count-view c.args.snapshot _ c.requires.possible.view s.records ∙ ap (λ (u : State). open_count u.records) c.self.view_is)
 
 pub insert-requires-clause-few : goal.insert-requires-clause-few
 insert-requires-clause-few g c =

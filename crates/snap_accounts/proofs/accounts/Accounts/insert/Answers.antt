@@ -59,7 +59,7 @@ invariant_of-self-2 g c =
     let labels = c.args.added.labels in
     let view : s ≡ c.args.self.now = c.self.view_is in
     let made : c.args.added ≡ new_record s place key parent labels (Active slot one) = c.requires.added ∙ ap (λ (u : State). new_record u place key parent labels (Active slot one)) (sym view) in
-    let is : c.insert.new.self ≡ with_record (new_record s place key parent labels (Active slot one)) s.records = c.in_default.ensures.ok ∙ ap (λ (r : Record). with_record r s.records) made in
+    let is : c.insert.new.self ≡ with_record (new_record s place key parent labels (Active slot one)) s.records = c.in_default.ensures.ok ∙ ap (λ (r : Record). with_record r s.records) (c.in_ok-held.ensures ∙ made) in
     let total : c.total.result ≡ charge_of place s.records = c.total.ensures.total ∙ ap (λ (u : State). charge_of place u.records) (sym view) in
     let after : c.plus-after.result ≡ plus (charge_of place s.records) one = c.plus-after.ensures ∙ (λ i. plus (total i) (c.one.ensures i)) in
     accounts_prepared s c.self.inside.totals c.set.new.self c.self.inside.slots c.issue.new.self c.self.inside.opened place slot key parent labels c.insert.new.self c.self.invariant
@@ -86,7 +86,7 @@ returns-clause-open g c =
     let labels = c.args.added.labels in
     let view : s ≡ c.args.self.now = c.self.view_is in
     let made : c.args.added ≡ new_record s place key parent labels (Active slot one) = c.requires.added ∙ ap (λ (u : State). new_record u place key parent labels (Active slot one)) (sym view) in
-    let is : c.insert.new.self ≡ with_record (new_record s place key parent labels (Active slot one)) s.records = c.in_default.ensures.ok ∙ ap (λ (r : Record). with_record r s.records) made in
+    let is : c.insert.new.self ≡ with_record (new_record s place key parent labels (Active slot one)) s.records = c.in_default.ensures.ok ∙ ap (λ (r : Record). with_record r s.records) (c.in_ok-held.ensures ∙ made) in
     open_count-prepared s place key parent labels slot c.insert.new.self is ∙ ap (λ (u : State). open_count u.records + 1) view
 
 pub insert-requires-clause-few : goal.insert-requires-clause-few

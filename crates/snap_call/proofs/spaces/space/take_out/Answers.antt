@@ -90,7 +90,6 @@ returns-clause-record_taken c = λ place of.
     let p = c.beginning_of-beginning.result in
     let g = c.in_ok-group.group.now in
     let found : lookup (at_beginning p) es ≡ Some g = sym c.get_mut.ensures.value ∙ ap option_copied_mut c.in_ok-group.was in
-    ap Some c.into_record.ensures
-    ∙ sym c.in_ok-removed.was
+    sym c.in_ok-removed.was
     ∙ c.remove.ensures.record_taken place (all-found (λ r. r.namespace ≡ place) (at_beginning p) es g found of)
     ∙ groups-found place c.args.key.now p c.beginning_of-beginning.ensures es g c.requires found

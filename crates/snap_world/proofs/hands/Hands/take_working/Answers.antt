@@ -8,9 +8,9 @@ use Rattle.snap_world.proofs.hands.Hands.take_working.Goals as goal
 
 pub returns-in-Sealed : goal.returns-in-Sealed
 returns-in-Sealed g c =
-    let taken = c.in_ok-id.ensures in
+    let taken = c.in_ok-held.ensures in
     let hand : HandValue = record { snapshot = c.in-Sealed.sealed; sealed = true } in
-    let is : c.in_ok-id.field-0 ≡ hand = sym c.id.view_is ∙ ap hand_of c.in-Sealed.is in
+    let is : c.in_ok-held.field-0 ≡ hand = sym c.held.view_is ∙ ap hand_of c.in-Sealed.is in
     let at : hand_at c.args.slot c.args.self.now ≡ Some hand = taken.0 ∙ ap (λ (h : HandValue). Some h) is in
     let under : is_under c.args.id hand ≡ true = ap (is_under c.args.id) (sym is) ∙ taken.1 in (
       ap (meets (is_working c.args.id)) at ∙ ap (λ (b : Bool). b && false) under,

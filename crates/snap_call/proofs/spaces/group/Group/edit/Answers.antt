@@ -1,8 +1,8 @@
-use Rattle.std.proofs.Common.{◌≡◌, ◌++◌, true≢false, None, Some, subst, sym, ap, ◌∙◌}
+use Rattle.std.proofs.Common.{◌≡◌, ◌&&◌, bytes_eq, eq-eqb, refl, [], ◌∷◌, ◌++◌, cond, true, true≢false, None, Some, subst, sym, ap, ◌∙◌}
 use Rattle.std.specs.Map.{lookup, values_of}
 use Rattle.std.specs.BTreeMap.{values}
 use Rattle.std.specs.Option.{IsSome, option_copied_mut, option_to_list}
-use Rattle.std.specs.Prelude.{Option}
+use Rattle.std.specs.Prelude.{◌==◌, Option}
 use Rattle.snap_record.specs.declared.record.Record.{Record}
 use Rattle.snap_call.specs.Records.{is_named, record_at}
 use Rattle.snap_call.specs.Spaces.{IsOf, IsKeyed, edited_record, edited_at}
@@ -41,3 +41,24 @@ returns-in_default c = λ place of.
     ∙ set-named place c.args.key.now (edited_record c.args.edit) es r w c.self.invariant.1 (subst (IsOf place) (sym shown) of) found c.edit.ensures)
     ∙ ap (λ o. option_to_list o ++ edited_at place c.args.key.now c.args.edit (values_of es)) c.in_default.is
     ∙ ap (edited_at place c.args.key.now c.args.edit) shown
+
+pub edit-requires : goal.edit-requires
+edit-requires c =
+    let place = c.requires.0 in
+    let es = c.self.inside.others.entries in
+    let shown : values_of es ≡ c.args.self.now = ap (λ o. option_to_list o ++ values_of es) (sym c.in_default.is) ∙ c.self.view_is in
+    let found : lookup (by_text c.args.key.now) es ≡ Some c.in-Some-get_mut.boxed.now = sym c.get_mut.ensures.value ∙ ap option_copied_mut c.in-Some-get_mut.is in
+    c.requires.2 c.in-Some-get_mut.boxed.now
+    (ap (record_at place c.args.key.now) (sym shown) ∙ sym (lookup-named place c.args.key.now es c.self.invariant.1 (subst (IsOf place) (sym shown) c.requires.1)) ∙ found)
+
+pub edit-requires-then-eq : goal.edit-requires-then-eq
+edit-requires-then-eq c =
+    let place = c.requires.0 in
+    let r = c.in-Some.alone in
+    let es = c.self.inside.others.entries in
+    let none : values_of es ≡ [] = c.self.invariant.0 (subst (λ (o : Option Record). IsSome o) (sym c.in-Some.is) refl) in
+    let shown : r ∷ [] ≡ c.args.self.now = ap (λ vs. r ∷ vs) (sym none) ∙ ap (λ o. option_to_list o ++ values_of es) (sym c.in-Some.is) ∙ c.self.view_is in
+    let of : IsOf place (r ∷ []) = subst (IsOf place) (sym shown) c.requires.1 in
+    let keyed : bytes_eq r.key c.args.key.now ≡ true = ap (λ k. bytes_eq k c.args.key.now) (sym (c.as_str.ensures ∙ ap (λ (x : Record). x.key) c.record.ensures)) ∙ sym c.eq.ensures ∙ c.if-eq.true in
+    let named : is_named place c.args.key.now r ≡ true = ap (λ b. (r.namespace == place) && b) keyed ∙ ap (λ b. b && true) (eq-eqb r.namespace place of.0) in
+    c.requires.2 r (ap (record_at place c.args.key.now) (sym shown) ∙ ap (λ b. cond b (Some r) None) named)

@@ -14,7 +14,7 @@ invariant_of-self-in-Ok c =
     let rs = joined_records (values_of c.self.inside.map.entries) in
     let counts = c.self.inside.parents in (
       c.put.ensures.groups,
-      parents-added r rs _ counts c.add.new.self c.self.invariant.1 (λ q. c.in_default.ensures.ok q ∙ ap (λ t. count_in q counts + one_if (bytes_eq q t)) c.as_str.ensures) c.in-Ok.ensures.ok,
+      parents-added r rs _ counts c.add.new.self c.self.invariant.1 (λ q. c.in_default.ensures.ok q ∙ ap (λ t. count_in q counts + one_if (bytes_eq q t)) (c.as_str.ensures ∙ ap (λ (x : Record). x.parent) c.record.ensures)) c.in-Ok.ensures.ok,
     )
 
 pub add-requires : goal.add-requires

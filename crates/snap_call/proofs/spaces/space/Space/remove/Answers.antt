@@ -2,6 +2,7 @@ use Rattle.std.proofs.Common.{◌≡◌, ◌-◌, None, Some, bytes_eq, subst, s
 use Rattle.std.specs.Map.{values_of}
 use Rattle.snap_counts.specs.Counts.{count_in}
 use Rattle.snap_counts.proofs.Lists.{one_if}
+use Rattle.snap_record.specs.declared.record.Record.{Record}
 use Rattle.snap_call.specs.Records.{is_named, record_at}
 use Rattle.snap_call.specs.Spaces.{AreParentCounts, first_place_of, joined_records}
 use Rattle.snap_call.proofs.Entries.{parents-removed, without-none}
@@ -25,5 +26,5 @@ invariant_of-self-2 c =
     let r = c.in_ok-removed.removed in
     let found : record_at n c.args.key.now rs ≡ Some r = sym (c.take_out.ensures.record_taken n of) ∙ c.in_ok-removed.was in (
       c.take_out.ensures.groups,
-      parents-removed (is_named n c.args.key.now) rs _ r counts c.take.new.self found c.self.invariant.1 (λ q. c.take.ensures q ∙ ap (λ t. count_in q counts - one_if (bytes_eq q t)) c.as_str.ensures) (c.take_out.ensures.taken n of),
+      parents-removed (is_named n c.args.key.now) rs _ r counts c.take.new.self found c.self.invariant.1 (λ q. c.take.ensures q ∙ ap (λ t. count_in q counts - one_if (bytes_eq q t)) (c.as_str.ensures ∙ ap (λ (x : Record). x.parent) c.record.ensures)) (c.take_out.ensures.taken n of),
     )

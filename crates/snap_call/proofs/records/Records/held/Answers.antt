@@ -1,6 +1,6 @@
 use Rattle.std.proofs.Common.{◌++◌, sym, ap, ◌∙◌}
 use Rattle.snap_call.proofs.Joined.{joined-next}
-use Rattle.snap_call.proofs.records.Records.list.Goals as goal
+use Rattle.snap_call.proofs.records.Records.held.Goals as goal
 
 pub loop-space-preserved : goal.loop-space-preserved
 loop-space-preserved c =

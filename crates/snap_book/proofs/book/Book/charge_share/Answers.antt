@@ -8,7 +8,7 @@ use Rattle.snap_call.specs.declared.refusal.Refusal.TheVariants.{OverLimit}
 use Rattle.snap_call.specs.declared.state.State.{State}
 use Rattle.snap_book.specs.Book.{Kept}
 use Rattle.snap_book.proofs.Keeping.{kept_push}
-use Rattle.snap_book.proofs.book.Book.charge.Goals as goal
+use Rattle.snap_book.proofs.book.Book.charge_share.Goals as goal
 
 pub invariant_of-self-in-Ok : goal.invariant_of-self-in-Ok
 invariant_of-self-in-Ok g c =

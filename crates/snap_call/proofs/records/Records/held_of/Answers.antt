@@ -2,7 +2,7 @@ use Rattle.std.proofs.Common.{◌≡◌, ◌<◌, ◌≤◌, length, get_or, map
 use Rattle.std.specs.Prelude.{◌==◌, ◌++◌, filter}
 use Rattle.std.proofs.lemmas.Result.{IfOk-weaker}
 use Rattle.snap_call.proofs.Joined.{joined-own, joined-own-past}
-use Rattle.snap_call.proofs.records.Records.list_of.Goals as goal
+use Rattle.snap_call.proofs.records.Records.held_of.Goals as goal
 
 pub returns-in-Some : goal.returns-in-Some
 returns-in-Some c =
