@@ -6,6 +6,7 @@ use Rattle.snap_record.specs.Labels.{Label}
 use Rattle.snap_saved.specs.Pieces.{head_of, pieces_of}
 use Rattle.snap_saved.specs.Saved.{saved}
 use Rattle.snap_call.specs.declared.config.Config.{Config}
+use Rattle.snap_call.specs.declared.saved.Saved.{Saved}
 use Rattle.snap_call.specs.declared.saved.SavedContent.{SavedContent}
 use Rattle.snap_call.specs.declared.saved.SavedContent.TheVariants as contents
 use Rattle.snap_call.specs.declared.saved_lease.SavedLease.{SavedLease}
@@ -41,9 +42,13 @@ saved_kind contents.View hand = kinds.View
 saved_kind (contents.Active slot charged) hand = kinds.Active slot charged (option_map hand_head hand)
 saved_kind (contents.Committed layer) hand = kinds.Committed (head_of (saved layer))
 
+-- the snapshot without its labels, that holds this
+abbrev pub head_holding : SnapshotKind → Saved → SnapshotHead
+head_holding kind s = record { namespace = s.namespace; key = s.key; parent = s.parent; id = s.id; created = s.created; updated = s.updated; kind = kind }
+
 -- the snapshot without its labels and the pieces of its layer
 abbrev pub snapshot_head : SavedSnapshot → SnapshotHead
-snapshot_head s = record { namespace = s.saved.namespace; key = s.saved.key; parent = s.saved.parent; id = s.saved.id; created = s.saved.created; updated = s.saved.updated; kind = saved_kind s.saved.content s.hand }
+snapshot_head s = head_holding (saved_kind s.saved.content s.hand) s.saved
 
 -- a label
 abbrev pub label_piece : Label → StorePiece

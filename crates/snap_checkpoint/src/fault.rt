@@ -9,8 +9,8 @@ use thiserror::Error;
 /// Why a piece isn't put, or why pieces make no saved store.
 #[derive(Clone, Copy, Debug, PartialEq, Eq, Error)]
 pub enum StoreFault {
-    /// A label or a piece of a layer where the last part is no snapshot that has one, a name where it is no lease, or a piece
-    /// of a layer that isn't in its place there.
+    /// A label or a piece of a layer where the last part is no snapshot that has one, a name where it is no lease, or a
+    /// piece of a layer that isn't in its place there.
     #[error("not in its place")]
     Misplaced,
     /// The end says that there are more or fewer lines than have come.

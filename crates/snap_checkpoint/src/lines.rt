@@ -10,7 +10,7 @@ use crate::fault::StoreFault;
 use crate::gathering::StoreGathering;
 use crate::pieces::StorePieces;
 use snap_pieces::{Line, StoreHead};
-use snap_world::SavedWorld;
+use snap_world::{HeldWorld, SavedWorld};
 use std::alloc::{AllocError, Global};
 use std::marker::Model;
 
@@ -54,6 +54,23 @@ impl StoreLines {
         ensures back { AllByRecursion IsWholeSnapshot saved.snapshots → IfOk result (λ lines. lines_put None lines ≡ Ok saved) }
     {
         let (head, pieces) = StorePieces::begin(alloc, saved)?;
+        Ok(StoreLines {
+            lines: 0,
+            head: Some(head),
+            pieces: Some(pieces),
+        })
+    }
+
+    /// The same of a store that is held.
+    ///
+    /// It fails only where memory is refused, and then nothing is held. Memory and cost are those of
+    /// [`StorePieces::hold`].
+    pub fn hold(alloc: Global, held: HeldWorld) -> Result<StoreLines, AllocError>
+        ensures lines { IfOk result (λ lines. lines ≡ store_lines held) }
+        // The lines, put one after another, make the saved store.
+        ensures back { AllByRecursion IsWholeSnapshot held.snapshots → IfOk result (λ lines. lines_put None lines ≡ Ok held) }
+    {
+        let (head, pieces) = StorePieces::hold(alloc, held)?;
         Ok(StoreLines {
             lines: 0,
             head: Some(head),

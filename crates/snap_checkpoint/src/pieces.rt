@@ -6,9 +6,10 @@ ghost use Rattle.snap_checkpoint.specs.Gathered.{store_of_pieces};
 ghost use Rattle.snap_checkpoint.specs.Pieces.{head_with, store_head, store_pieces};
 
 use crate::split::{split_lease, split_namespaces, split_snapshot};
-use snap_call::{Config, SavedLease};
+use snap_call::{Config, Namespace, SavedLease, saved_of};
 use snap_pieces::{StoreHead, StorePiece};
-use snap_world::{SavedSnapshot, SavedWorld};
+use snap_record::Sequence;
+use snap_world::{HeldSnapshot, HeldWorld, SavedSnapshot, SavedWorld};
 use std::alloc::{AllocError, Global};
 use std::collections::VecDeque;
 use std::marker::Model;
@@ -18,17 +19,21 @@ use std::marker::Model;
 struct Parts {
     alloc: Global,
     snapshots: VecDeque<SavedSnapshot>,
+    // Those that are held, of a store with these namespaces.
+    namespaces: Sequence<Namespace>,
+    held: VecDeque<HeldSnapshot>,
     leases: VecDeque<SavedLease>,
 }
 
 impl Model for Parts {
-    ghost use Rattle.std.specs.Prelude.{List};
+    ghost use Rattle.std.specs.Prelude.{List, ◌++◌, map};
+    ghost use Rattle.snap_world.specs.Held.{held_snapshot};
     ghost use Rattle.snap_checkpoint.specs.Pieces.{parts_pieces};
     ghost use Rattle.snap_pieces.specs.declared.piece.StorePiece.{StorePiece as PieceValue};
 
     ghost Value = { List PieceValue };
 
-    ghost view = { λ p. parts_pieces p.snapshots.items p.leases.items };
+    ghost view = { λ p. parts_pieces (p.snapshots.items ++ map (held_snapshot p.namespaces) p.held.items) p.leases.items };
 }
 
 /// The pieces of a saved store that are left, in their order. Contracts see the list of them.
@@ -61,8 +66,18 @@ impl Parts {
         ensures err { OnErr result (self.new ≡ self.old) }
     {
         if let Some(snapshot) = self.snapshots.front() {
-            let pieces = split_snapshot(self.alloc, snapshot)?;
+            let pieces = split_snapshot(self.alloc, &snapshot.saved, &snapshot.hand)?;
             drop(self.snapshots.pop_front());
+            return Ok(pieces);
+        }
+        if let Some(snapshot) = self.held.front() {
+            let saved = saved_of(
+                self.alloc,
+                self.namespaces.as_slice(),
+                snapshot.held.record(),
+            )?;
+            let pieces = split_snapshot(self.alloc, &saved, &snapshot.hand)?;
+            drop(self.held.pop_front());
             return Ok(pieces);
         }
         if let Some(lease) = self.leases.front() {
@@ -123,12 +138,57 @@ impl StorePieces {
         let parts = Parts {
             alloc,
             snapshots: snapshots.into(),
+            namespaces: Sequence::new(alloc),
+            held: VecDeque::new(alloc),
             leases: leases.into(),
         };
         let pieces = StorePieces {
             begun: begun.into(),
             parts,
         };
+        Ok((head, pieces))
+    }
+
+    // What the saved store of one that is held has besides its pieces, and these.
+    fn of_held(alloc: Global, held: HeldWorld) -> Result<(StoreHead, StorePieces), AllocError>
+        ensures head { IfOk result (λ p. p.0 ≡ store_head held) }
+        ensures pieces { IfOk result (λ p. p.1 ≡ store_pieces held) }
+    {
+        let HeldWorld {
+            config,
+            entries,
+            next_id,
+            snapshots,
+            leases,
+        } = held;
+        let begun = split_namespaces(alloc, config.namespaces.as_slice())?;
+        let namespaces = config.namespaces.clone()?;
+        let head = head_of(config, entries, next_id);
+        let parts = Parts {
+            alloc,
+            snapshots: VecDeque::new(alloc),
+            namespaces,
+            held: snapshots.into(),
+            leases: leases.into(),
+        };
+        let pieces = StorePieces {
+            begun: begun.into(),
+            parts,
+        };
+        Ok((head, pieces))
+    }
+
+    /// The same of a store that is held. A snapshot's texts are copied once its pieces begin.
+    ///
+    /// Memory and cost are those of [`StorePieces::begin`].
+    #[tactic(auto, using(crate::proofs::StoreBack::own_back))]
+    pub fn hold(alloc: Global, held: HeldWorld) -> Result<(StoreHead, StorePieces), AllocError>
+        ensures head { IfOk result (λ p. p.0 ≡ store_head held) }
+        ensures pieces { IfOk result (λ p. p.1 ≡ store_pieces held) }
+        // The pieces, put one after another, make the saved store.
+        ensures back { AllByRecursion IsWholeSnapshot held.snapshots → IfOk result (λ p. store_of_pieces p.0 p.1 ≡ Ok held) }
+    {
+        let (head, pieces) = StorePieces::of_held(alloc, held)?;
         Ok((head, pieces))
     }
 

@@ -4,15 +4,15 @@ ghost use Rattle.std.specs.Option.{option_map, option_map_or};
 ghost use Rattle.snap_saved.specs.Pieces.{head_of, pieces_of};
 ghost use Rattle.snap_saved.specs.Saved.{saved};
 ghost use Rattle.snap_world.specs.Saved.{saved_layer};
-ghost use Rattle.snap_checkpoint.specs.Pieces.{hand_head, saved_kind, label_piece, lease_pieces, snapshot_head, snapshot_pieces};
+ghost use Rattle.snap_checkpoint.specs.Pieces.{hand_head, saved_kind, label_piece, lease_pieces, head_holding, snapshot_pieces};
 ghost use Rattle.snap_pieces.specs.declared.piece.StorePiece.TheVariants as piece_kinds;
 
-use snap_call::{Namespace, SavedContent, SavedLease};
+use snap_call::{Namespace, Saved, SavedContent, SavedLease};
 use snap_layer::Layer;
 use snap_pieces::{HandHead, SnapshotHead, SnapshotKind, StorePiece};
 use snap_record::{Labels, Text};
 use snap_saved::{Head, Piece, save};
-use snap_world::{SavedHand, SavedSnapshot};
+use snap_world::SavedHand;
 use std::alloc::{AllocError, Global};
 
 // What the layer has besides its pieces, and these.
@@ -91,10 +91,9 @@ fn push_layer(layer: Vec<Piece>, pieces: &mut Vec<StorePiece>) -> Result<(), All
 }
 
 // The snapshot without its labels and the pieces of its layer, with what it holds.
-fn snapshot_head(snapshot: &SavedSnapshot, kind: SnapshotKind) -> Result<SnapshotHead, AllocError>
-    ensures { IfOk result (λ head. head ≡ record (snapshot_head snapshot.now) { kind = kind }) }
+fn snapshot_head(saved: &Saved, kind: SnapshotKind) -> Result<SnapshotHead, AllocError>
+    ensures { IfOk result (λ head. head ≡ head_holding kind saved.now) }
 {
-    let saved = &snapshot.saved;
     Ok(SnapshotHead {
         namespace: saved.namespace.clone()?,
         key: saved.key.clone()?,
@@ -109,15 +108,16 @@ fn snapshot_head(snapshot: &SavedSnapshot, kind: SnapshotKind) -> Result<Snapsho
 /// The pieces of a snapshot. Takes memory for them, with copies of its texts and of the bytes of its layer's files.
 pub(crate) fn split_snapshot(
     alloc: Global,
-    snapshot: &SavedSnapshot,
+    saved: &Saved,
+    hand: &Option<SavedHand>,
 ) -> Result<Vec<StorePiece>, AllocError>
-    ensures { IfOk result (λ pieces. pieces.items ≡ snapshot_pieces snapshot.now) }
+    ensures { IfOk result (λ pieces. pieces.items ≡ snapshot_pieces (record { saved = saved.now; hand = hand.now })) }
 {
-    let (kind, layer) = split_content(alloc, &snapshot.saved.content, &snapshot.hand)?;
-    let head = snapshot_head(snapshot, kind)?;
-    let mut pieces = Vec::with_capacity(alloc, 1 + snapshot.saved.labels.len() + layer.len())?;
+    let (kind, layer) = split_content(alloc, &saved.content, hand)?;
+    let head = snapshot_head(saved, kind)?;
+    let mut pieces = Vec::with_capacity(alloc, 1 + saved.labels.len() + layer.len())?;
     pieces.push(StorePiece::Snapshot(head))?;
-    push_labels(&snapshot.saved.labels, &mut pieces)?;
+    push_labels(&saved.labels, &mut pieces)?;
     push_layer(layer, &mut pieces)?;
     Ok(pieces)
 }

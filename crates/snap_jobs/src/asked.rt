@@ -62,32 +62,35 @@ pub(crate) fn is_question(line: &Value<'_>) -> bool
 }
 
 // The fault of a command that is no question.
-fn no_question(_command: Command) -> Fault
+fn no_question(_command: Command<'_>) -> Fault
     ensures { result ≡ BadField fields.Do (Some founds.Text) }
 {
     Fault::BadField(Field::Do, Some(Found::Text))
 }
 
 // What a command asks.
-fn asked_command(command: Command) -> Result<Asked, Fault>
-    ensures { result ≡ asked_command command }
+fn asked_command(alloc: Global, command: Command<'_>) -> Result<Asked, ReadError>
+    ensures { Gives (λ asked. asked) result (asked_command command.entry) }
 {
     match command {
         Command::Ask(question) => Ok(Asked::Question(question)),
-        Command::ChainUsage { namespace, key } => Ok(Asked::ChainUsage { namespace, key }),
-        other => Err(no_question(other)),
+        Command::ChainUsage { namespace, key } => Ok(Asked::ChainUsage {
+            namespace: Text::copy_of(alloc, namespace.as_str())?,
+            key: Text::copy_of(alloc, key.as_str())?,
+        }),
+        other => Err(ReadError::Fault(no_question(other))),
     }
 }
 
-fn asked_in(line: Line) -> Result<Asked, Fault>
-    ensures { result ≡ asked_in line }
+fn asked_in(alloc: Global, line: Line<'_>) -> Result<Asked, ReadError>
+    ensures { Gives (λ asked. asked) result (asked_in line.entry) }
 {
     match line {
         Line::Command {
             session: _,
             command,
-        } => asked_command(command),
-        Line::Empty => Err(Fault::BadField(Field::Do, Some(Found::Text))),
+        } => asked_command(alloc, command),
+        Line::Empty => Err(ReadError::Fault(Fault::BadField(Field::Do, Some(Found::Text)))),
     }
 }
 
@@ -97,7 +100,7 @@ pub(crate) fn asked_of(alloc: Global, rule: FieldRule, line: &Value<'_>) -> Resu
     ensures { Gives (λ asked. asked) result (asked_of rule (view line.now)) }
 {
     let line = command_in(alloc, rule, true, line)?;
-    Ok(asked_in(line)?)
+    asked_in(alloc, line)
 }
 
 // What the refusals of a question are about.

@@ -262,8 +262,6 @@ pub(crate) fn put_path(out: &mut Writer, path: &Path) -> Result<(), AllocError>
     ensures written { OnOk result (out.new ≡ with_value (path_data path.now) (tokens.key (codes "path") ∷ out.old)) }
     ensures path { OnOk result (IsPath path.now) }
 {
-    // They are a path's.
-    let _ = path.names();
     put_text(out, "path", path.as_str())
 }
 

@@ -59,8 +59,8 @@ fn write_piece(alloc: Global, out: &mut Writer, piece: &StorePiece) -> Result<()
 
 /// Writes the line's value: the command `restore` with what the line says.
 ///
-/// It fails only where memory is refused, and then nothing is said of what `out` has. Takes memory for the text, and for the hexadecimal digits of bytes. The cost
-/// grows with them.
+/// It fails only where memory is refused, and then nothing is said of what `out` has. Takes memory for the text, and for
+/// the hexadecimal digits of bytes. The cost grows with them.
 #[tactic(auto, using(crate::proofs::Back::line_back, crate::proofs::TextLaws::line_reads))]
 pub fn write_line(alloc: Global, out: &mut Writer, line: &Line) -> Result<(), AllocError>
     ensures written { OnOk result (out.new ≡ with_value (line_data line.now) out.old) }

@@ -12,7 +12,7 @@ use crate::command::Command;
 use crate::fault::{Field, ReadError};
 use crate::fields::{is_true, required_usage};
 use crate::operation::operations;
-use crate::parse::named;
+use crate::parse::lent_named;
 use crate::unknown::FieldRule;
 use snap_json::{Token, Value, Writer};
 use snap_usage::Usage;
@@ -21,10 +21,14 @@ use std::alloc::{AllocError, Global};
 
 /// The batch of a line, by the fields that its operations may have.
 #[tactic(auto, unfolding(crate::specs::Commands::batch_of))]
-pub(crate) fn batch(alloc: Global, rule: FieldRule, line: &Value<'_>) -> Result<Command, ReadError>
+pub(crate) fn batch<'a>(
+    alloc: Global,
+    rule: FieldRule,
+    line: &Value<'a>,
+) -> Result<Command<'a>, ReadError>
     ensures { Gives (λ c. c) result (batch_of rule (view line.now)) }
 {
-    let (namespace, key) = named(alloc, line)?;
+    let (namespace, key) = lent_named(line)?;
     Ok(Command::Batch {
         namespace,
         key,

@@ -2,6 +2,7 @@ ghost use Rattle.std.specs.Prelude.{◌≡◌, IfOk, map};
 ghost use Rattle.snap_script.specs.Changes.{changes_store, opens_store};
 
 use crate::fault::Field;
+use crate::lent::LentText;
 use snap_call::{Call, Config, Namespace, Question};
 use snap_path::Path;
 use snap_pieces::{Line as SavedLine, LineField};
@@ -10,9 +11,10 @@ use snap_upper::Op;
 use snap_usage::Usage;
 use std::alloc::{AllocError, Global};
 
-/// A command of a script.
+/// A command of a script. Texts that only look something up are lent by its line; those that go into an entry of the
+/// journal or into a record are the command's own.
 #[derive(Drop)]
-pub enum Command {
+pub enum Command<'line> {
     /// Opens a store, and its session 0.
     Open {
         config: Config,
@@ -35,44 +37,44 @@ pub enum Command {
     Ask(Question),
     /// Charges an active snapshot for the wanted amount, or for the needed one.
     Charge {
-        namespace: Text,
-        key: Text,
+        namespace: LentText<'line>,
+        key: LentText<'line>,
         need: Usage,
         want: Usage,
     },
     /// Lowers the charge of an active snapshot to the count of its layer.
     Trim {
-        namespace: Text,
-        key: Text,
+        namespace: LentText<'line>,
+        key: LentText<'line>,
     },
     /// Commits an active snapshot under a name, with the labels in place of its own where they are given
     /// (containerd's `Commit`).
     Commit {
-        namespace: Text,
-        key: Text,
+        namespace: LentText<'line>,
+        key: LentText<'line>,
         name: Text,
         lease: Option<Text>,
         labels: Option<Labels>,
     },
     /// Drops an active snapshot.
     Discard {
-        namespace: Text,
-        key: Text,
+        namespace: LentText<'line>,
+        key: LentText<'line>,
     },
     /// Changes a file or a directory of an active snapshot. Where its charge doesn't cover what is
     /// needed, that is charged and, if the limit covers it, the extra amount too. In place of the operation stands the
     /// first field of a path whose text is no path.
     File {
-        namespace: Text,
-        key: Text,
+        namespace: LentText<'line>,
+        key: LentText<'line>,
         operation: Result<Op, Field>,
         extra: Usage,
     },
     /// Charges an active snapshot for what is needed, and then carries out file operations on it, in order, up to the
     /// first that is refused. Where it is whole and one is refused, the layer is as it was.
     Batch {
-        namespace: Text,
-        key: Text,
+        namespace: LentText<'line>,
+        key: LentText<'line>,
         need: Usage,
         ops: Sequence<Op>,
         whole: bool,
@@ -80,47 +82,47 @@ pub enum Command {
     /// Asks what an active snapshot or a view shows at a path, and where it may be peeked at, what a committed one
     /// would. There is no path where its text is none.
     Lookup {
-        namespace: Text,
-        key: Text,
+        namespace: LentText<'line>,
+        key: LentText<'line>,
         lookup: Lookup,
         path: Option<Path>,
         peek: bool,
     },
     /// Asks what a sweep of a namespace would take away at a moment. Nothing goes.
     TrySweep {
-        namespace: Text,
+        namespace: LentText<'line>,
         moment: u64,
     },
     /// Asks what a snapshot and its committed ancestors are charged together.
     ChainUsage {
-        namespace: Text,
-        key: Text,
+        namespace: LentText<'line>,
+        key: LentText<'line>,
     },
     /// Asks what each namespace may take and what it takes, or one of them.
     Quota {
-        namespace: Option<Text>,
+        namespace: Option<LentText<'line>>,
     },
     /// Asks for the leases of a namespace, or for the one of a name.
     Leases {
-        namespace: Text,
-        lease: Option<Text>,
+        namespace: LentText<'line>,
+        lease: Option<LentText<'line>>,
     },
     /// Asks for the snapshots of a namespace, as a forest by parent.
     Tree {
-        namespace: Text,
+        namespace: LentText<'line>,
     },
     /// Asks for what the snapshot's layer changes of what its ancestors show: of the changes after a path, or of all
     /// where its text is empty, at most `most`.
     Diff {
-        namespace: Text,
-        key: Text,
-        after: Text,
+        namespace: LentText<'line>,
+        key: LentText<'line>,
+        after: LentText<'line>,
         most: u64,
     },
     /// Asks for the round's entries, all or those of a namespace, after the entry of a number, at most `most`, and in
     /// full also for the lines that make their calls.
     Journal {
-        namespace: Option<Text>,
+        namespace: Option<LentText<'line>>,
         after: u64,
         most: u64,
         full: bool,
@@ -161,7 +163,7 @@ fn opens_store(config: &Config) -> bool
     config.bad_field().is_none() && 1 <= config.journal
 }
 
-impl Command {
+impl Command<'_> {
     /// Whether the command may change a store, or opens one. Any other leaves the store as it is, whatever store it is,
     /// and makes no entry. An `Open` opens none where a part of its configuration is malformed, or its journal has no
     /// room for an entry.

@@ -7,6 +7,7 @@ ghost use Rattle.snap_script.specs.Fields.{found_in, misfit, missing, text, requ
 ghost use Rattle.snap_script.specs.Gives.{Gives, GivesAll};
 
 use crate::fault::{Fault, Field, Found, ReadError};
+use crate::lent::LentText;
 use snap_call::Namespace;
 use snap_json::{Value, by_name};
 use snap_layer::Bytes;
@@ -165,17 +166,27 @@ pub fn optional_text(
     }
 }
 
-/// A text, the empty one where it is absent.
-pub(crate) fn text_or_empty(
-    alloc: Global,
+/// The same, lent by the line.
+pub(crate) fn lent_optional_text<'a>(
     field: Field,
-    line: &Value<'_>,
-) -> Result<Text, ReadError>
-    ensures { Gives (λ t. t) result (optional as_str field (Ok []) (view line.now)) }
+    line: &Value<'a>,
+) -> Result<Option<LentText<'a>>, Fault>
+    ensures { result ≡ given as_str field (view line.now) }
 {
     match line.get(field.name()) {
-        Some(_) => text(alloc, field, line),
-        None => Ok(Text::new(alloc)),
+        Some(Value::String(text)) => Ok(Some(LentText::new(text))),
+        Some(value) => Err(misfit(field, value)),
+        None => Ok(None),
+    }
+}
+
+/// A text, lent by the line, the empty one where it is absent.
+pub(crate) fn text_or_empty<'a>(field: Field, line: &Value<'a>) -> Result<&'a str, Fault>
+    ensures { GivesAll (λ s. s.now) result (optional as_str field (Ok []) (view line.now)) }
+{
+    match line.get(field.name()) {
+        Some(_) => lent_text(field, line),
+        None => Ok(""),
     }
 }
 

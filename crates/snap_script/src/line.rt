@@ -21,11 +21,14 @@ pub const MAX_LINE_BYTES: usize = 16_777_216;
 
 /// What a line of a script is.
 #[derive(Drop)]
-pub enum Line {
+pub enum Line<'line> {
     /// Nothing but spaces, tabs and carriage returns.
     Empty,
     /// A command, and the number of the session that makes its calls.
-    Command { session: u64, command: Command },
+    Command {
+        session: u64,
+        command: Command<'line>,
+    },
 }
 
 /// Whether a line, without its line feed, has nothing but spaces, tabs and carriage returns.
@@ -106,12 +109,12 @@ fn is_open(word: &str) -> Result<(), Fault>
 /// those of the command's fields in their order; each tells what [`Fault`] has, whatever the rule. `OutOfMemory` where
 /// memory for it was refused. The memory and the cost grow with the line.
 #[tactic(auto, unfolding(crate::specs::Lines::command_in))]
-pub fn command_in(
+pub fn command_in<'a>(
     alloc: Global,
     rule: FieldRule,
     opened: bool,
-    line: &Value<'_>,
-) -> Result<Line, ReadError>
+    line: &Value<'a>,
+) -> Result<Line<'a>, ReadError>
     ensures { Gives (λ line. line) result (command_in rule opened (view line.now)) }
 {
     let word = lent_text(Field::Do, line)?;
@@ -158,17 +161,17 @@ pub fn read_open(alloc: Global, rule: FieldRule, line: &Value<'_>) -> Result<Con
 ///
 /// Where any field may stand, a fault is [brief](Fault::brief).
 ///
-/// `OutOfMemory` where memory for the line's value or for the command was refused. The memory and the
-/// cost grow with the line, and a `fill` takes as many bytes as it asks for. The scratch keeps what it took for the
-/// next line.
+/// The line lends the command's texts, and those with escapes the scratch. `OutOfMemory` where memory for the line's
+/// value or for the command was refused. The memory and the cost grow with the line, and a `fill` takes as many bytes as
+/// it asks for. The scratch keeps what it took for the next line.
 #[tactic(auto, unfolding(crate::specs::Lines::command_line, crate::specs::Lines::line_of))]
-pub fn read_line(
+pub fn read_line<'a>(
     alloc: Global,
-    bytes: &[u8],
+    bytes: &'a [u8],
     rule: FieldRule,
     opened: bool,
-    scratch: &mut Scratch,
-) -> Result<Line, ReadError>
+    scratch: &'a mut Scratch,
+) -> Result<Line<'a>, ReadError>
     ensures { Gives (λ line. line) result (line_of rule opened bytes.now) }
 {
     if bytes.len() > MAX_LINE_BYTES {

@@ -9,10 +9,11 @@ use crate::batch::batch;
 use crate::command::{Command, Lookup};
 use crate::fault::{Fault, Field, ReadError};
 use crate::fields::{
-    is_true, label_filters, labels, labels_of_update, namespaces, number_or, optional_kind,
-    optional_labels, optional_number, optional_text, paths, required_labels, required_number,
-    required_usage, text, text_or_empty, usage_or,
+    is_true, label_filters, labels, labels_of_update, lent_optional_text, lent_text, namespaces,
+    number_or, optional_kind, optional_labels, optional_number, optional_text, paths,
+    required_labels, required_number, required_usage, text, text_or_empty, usage_or,
 };
+use crate::lent::LentText;
 use crate::operation::{file_operation, path_in};
 use crate::restore::restored;
 use crate::unknown::FieldRule;
@@ -46,6 +47,16 @@ pub fn named(alloc: Global, line: &Value<'_>) -> Result<(Text, Text), ReadError>
     Ok((namespace, key))
 }
 
+/// The same, lent by the line.
+#[tactic(auto, unfolding(crate::specs::Commands::named))]
+pub(crate) fn lent_named<'a>(line: &Value<'a>) -> Result<(LentText<'a>, LentText<'a>), Fault>
+    ensures { result ≡ named (view line.now) }
+{
+    let namespace = lent_text(Field::Namespace, line)?;
+    let key = lent_text(Field::Key, line)?;
+    Ok((LentText::new(namespace), LentText::new(key)))
+}
+
 /// The configuration of the store that an `open` names.
 #[tactic(auto, unfolding(crate::specs::Commands::config_of))]
 pub(crate) fn config_of(alloc: Global, line: &Value<'_>) -> Result<Config, ReadError>
@@ -69,7 +80,7 @@ pub(crate) fn config_of(alloc: Global, line: &Value<'_>) -> Result<Config, ReadE
 }
 
 #[tactic(auto, unfolding(crate::specs::Commands::call_of))]
-fn prepare(alloc: Global, line: &Value<'_>) -> Result<Command, ReadError>
+fn prepare<'a>(alloc: Global, line: &Value<'a>) -> Result<Command<'a>, ReadError>
     ensures { Gives (λ c. c) result (call_of kinds.Prepare (view line.now)) }
 {
     let (namespace, key) = named(alloc, line)?;
@@ -82,7 +93,7 @@ fn prepare(alloc: Global, line: &Value<'_>) -> Result<Command, ReadError>
 }
 
 #[tactic(auto, unfolding(crate::specs::Commands::call_of))]
-fn view(alloc: Global, line: &Value<'_>) -> Result<Command, ReadError>
+fn view<'a>(alloc: Global, line: &Value<'a>) -> Result<Command<'a>, ReadError>
     ensures { Gives (λ c. c) result (call_of kinds.View (view line.now)) }
 {
     let (namespace, key) = named(alloc, line)?;
@@ -97,10 +108,10 @@ fn view(alloc: Global, line: &Value<'_>) -> Result<Command, ReadError>
 }
 
 #[tactic(auto, unfolding(crate::specs::Commands::call_of))]
-fn charge(alloc: Global, line: &Value<'_>) -> Result<Command, ReadError>
+fn charge<'a>(alloc: Global, line: &Value<'a>) -> Result<Command<'a>, ReadError>
     ensures { Gives (λ c. c) result (call_of kinds.Charge (view line.now)) }
 {
-    let (namespace, key) = named(alloc, line)?;
+    let (namespace, key) = lent_named(line)?;
     let need = required_usage(Field::Need, line)?;
     let want = usage_or(need, Field::Want, line)?;
     Ok(Command::Charge {
@@ -112,7 +123,7 @@ fn charge(alloc: Global, line: &Value<'_>) -> Result<Command, ReadError>
 }
 
 #[tactic(auto, unfolding(crate::specs::Commands::call_of))]
-fn update(alloc: Global, line: &Value<'_>) -> Result<Command, ReadError>
+fn update<'a>(alloc: Global, line: &Value<'a>) -> Result<Command<'a>, ReadError>
     ensures { Gives (λ c. c) result (call_of kinds.Update (view line.now)) }
 {
     let (namespace, key) = named(alloc, line)?;
@@ -141,7 +152,7 @@ fn filter(alloc: Global, line: &Value<'_>) -> Result<Filter, ReadError>
 }
 
 /// The command that asks the question, without an entry where it is quiet.
-fn asked_as(quiet: bool, question: Question) -> Command
+fn asked_as<'line>(quiet: bool, question: Question) -> Command<'line>
     ensures { result ≡ asked_as quiet question }
 {
     if quiet {
@@ -153,14 +164,14 @@ fn asked_as(quiet: bool, question: Question) -> Command
 
 /// The same, as the line says.
 #[tactic(auto, unfolding(crate::specs::Commands::asked_by))]
-fn asked_by(line: &Value<'_>, question: Question) -> Result<Command, ReadError>
+fn asked_by<'a>(line: &Value<'a>, question: Question) -> Result<Command<'a>, ReadError>
     ensures { Gives (λ c. c) result (asked_by (view line.now) question) }
 {
     Ok(asked_as(is_true(Field::Quiet, line)?, question))
 }
 
 #[tactic(auto, unfolding(crate::specs::Commands::call_of))]
-fn stat(alloc: Global, line: &Value<'_>) -> Result<Command, ReadError>
+fn stat<'a>(alloc: Global, line: &Value<'a>) -> Result<Command<'a>, ReadError>
     ensures { Gives (λ c. c) result (call_of kinds.Stat (view line.now)) }
 {
     let (namespace, key) = named(alloc, line)?;
@@ -168,7 +179,7 @@ fn stat(alloc: Global, line: &Value<'_>) -> Result<Command, ReadError>
 }
 
 #[tactic(auto, unfolding(crate::specs::Commands::call_of))]
-fn mounts(alloc: Global, line: &Value<'_>) -> Result<Command, ReadError>
+fn mounts<'a>(alloc: Global, line: &Value<'a>) -> Result<Command<'a>, ReadError>
     ensures { Gives (λ c. c) result (call_of kinds.Mounts (view line.now)) }
 {
     let (namespace, key) = named(alloc, line)?;
@@ -176,12 +187,12 @@ fn mounts(alloc: Global, line: &Value<'_>) -> Result<Command, ReadError>
 }
 
 #[tactic(auto, unfolding(crate::specs::Commands::call_of))]
-fn walk(alloc: Global, line: &Value<'_>) -> Result<Command, ReadError>
+fn walk<'a>(alloc: Global, line: &Value<'a>) -> Result<Command<'a>, ReadError>
     ensures { Gives (λ c. c) result (call_of kinds.Walk (view line.now)) }
 {
     let question = Question::Walk {
         namespace: text(alloc, Field::Namespace, line)?,
-        after: text_or_empty(alloc, Field::After, line)?,
+        after: Text::copy_of(alloc, text_or_empty(Field::After, line)?)?,
         most: number_or(PAGE, Field::Most, line)?,
         asked: filter(alloc, line)?,
     };
@@ -189,7 +200,7 @@ fn walk(alloc: Global, line: &Value<'_>) -> Result<Command, ReadError>
 }
 
 #[tactic(auto, unfolding(crate::specs::Commands::call_of))]
-fn set_limit(alloc: Global, line: &Value<'_>) -> Result<Command, ReadError>
+fn set_limit<'a>(alloc: Global, line: &Value<'a>) -> Result<Command<'a>, ReadError>
     ensures { Gives (λ c. c) result (call_of kinds.Limit (view line.now)) }
 {
     let namespace = text(alloc, Field::Namespace, line)?;
@@ -200,7 +211,7 @@ fn set_limit(alloc: Global, line: &Value<'_>) -> Result<Command, ReadError>
 }
 
 #[tactic(auto, unfolding(crate::specs::Commands::call_of))]
-fn namespace_create(alloc: Global, line: &Value<'_>) -> Result<Command, ReadError>
+fn namespace_create<'a>(alloc: Global, line: &Value<'a>) -> Result<Command<'a>, ReadError>
     ensures { Gives (λ c. c) result (call_of kinds.NamespaceCreate (view line.now)) }
 {
     Ok(Command::Call(Call::NamespaceCreate {
@@ -213,7 +224,7 @@ fn namespace_create(alloc: Global, line: &Value<'_>) -> Result<Command, ReadErro
 }
 
 #[tactic(auto, unfolding(crate::specs::Commands::call_of))]
-fn namespace_remove(alloc: Global, line: &Value<'_>) -> Result<Command, ReadError>
+fn namespace_remove<'a>(alloc: Global, line: &Value<'a>) -> Result<Command<'a>, ReadError>
     ensures { Gives (λ c. c) result (call_of kinds.NamespaceRemove (view line.now)) }
 {
     let namespace = text(alloc, Field::Namespace, line)?;
@@ -221,7 +232,7 @@ fn namespace_remove(alloc: Global, line: &Value<'_>) -> Result<Command, ReadErro
 }
 
 #[tactic(auto, unfolding(crate::specs::Commands::call_of))]
-fn lease_create(alloc: Global, line: &Value<'_>) -> Result<Command, ReadError>
+fn lease_create<'a>(alloc: Global, line: &Value<'a>) -> Result<Command<'a>, ReadError>
     ensures { Gives (λ c. c) result (call_of kinds.LeaseCreate (view line.now)) }
 {
     Ok(Command::Call(Call::LeaseCreate {
@@ -232,7 +243,7 @@ fn lease_create(alloc: Global, line: &Value<'_>) -> Result<Command, ReadError>
 }
 
 #[tactic(auto, unfolding(crate::specs::Commands::call_of))]
-fn lease_add(alloc: Global, line: &Value<'_>) -> Result<Command, ReadError>
+fn lease_add<'a>(alloc: Global, line: &Value<'a>) -> Result<Command<'a>, ReadError>
     ensures { Gives (λ c. c) result (call_of kinds.LeaseAdd (view line.now)) }
 {
     Ok(Command::Call(Call::LeaseAdd {
@@ -243,7 +254,7 @@ fn lease_add(alloc: Global, line: &Value<'_>) -> Result<Command, ReadError>
 }
 
 #[tactic(auto, unfolding(crate::specs::Commands::call_of))]
-fn lease_drop(alloc: Global, line: &Value<'_>) -> Result<Command, ReadError>
+fn lease_drop<'a>(alloc: Global, line: &Value<'a>) -> Result<Command<'a>, ReadError>
     ensures { Gives (λ c. c) result (call_of kinds.LeaseDrop (view line.now)) }
 {
     Ok(Command::Call(Call::LeaseDrop {
@@ -254,37 +265,41 @@ fn lease_drop(alloc: Global, line: &Value<'_>) -> Result<Command, ReadError>
 }
 
 #[tactic(auto, unfolding(crate::specs::Commands::call_of))]
-fn sweep(alloc: Global, line: &Value<'_>) -> Result<Command, ReadError>
+fn sweep<'a>(alloc: Global, line: &Value<'a>) -> Result<Command<'a>, ReadError>
     ensures { Gives (λ c. c) result (call_of kinds.Sweep (view line.now)) }
 {
-    let namespace = text(alloc, Field::Namespace, line)?;
+    let name = lent_text(Field::Namespace, line)?;
     let moment = required_number(Field::Moment, line)?;
     if is_true(Field::Try, line)? {
+        let namespace = LentText::new(name);
         Ok(Command::TrySweep { namespace, moment })
     } else {
+        let namespace = Text::copy_of(alloc, name)?;
         Ok(Command::Call(Call::Sweep { namespace, moment }))
     }
 }
 
 #[tactic(auto, unfolding(crate::specs::Commands::call_of))]
-fn usage(alloc: Global, line: &Value<'_>) -> Result<Command, ReadError>
+fn usage<'a>(alloc: Global, line: &Value<'a>) -> Result<Command<'a>, ReadError>
     ensures { Gives (λ c. c) result (call_of kinds.Usage (view line.now)) }
 {
-    let (namespace, key) = named(alloc, line)?;
+    let (namespace, key) = lent_named(line)?;
     let chain = is_true(Field::Chain, line)?;
     let quiet = is_true(Field::Quiet, line)?;
     if chain {
         Ok(Command::ChainUsage { namespace, key })
     } else {
+        let namespace = Text::copy_of(alloc, namespace.as_str())?;
+        let key = Text::copy_of(alloc, key.as_str())?;
         Ok(asked_as(quiet, Question::Usage { namespace, key }))
     }
 }
 
 #[tactic(auto, unfolding(crate::specs::Commands::call_of))]
-fn commit(alloc: Global, line: &Value<'_>) -> Result<Command, ReadError>
+fn commit<'a>(alloc: Global, line: &Value<'a>) -> Result<Command<'a>, ReadError>
     ensures { Gives (λ c. c) result (call_of kinds.Commit (view line.now)) }
 {
-    let (namespace, key) = named(alloc, line)?;
+    let (namespace, key) = lent_named(line)?;
     Ok(Command::Commit {
         namespace,
         key,
@@ -296,21 +311,21 @@ fn commit(alloc: Global, line: &Value<'_>) -> Result<Command, ReadError>
 
 /// The question for a snapshot's changes.
 #[tactic(auto, unfolding(crate::specs::Commands::diff_of))]
-fn diff(alloc: Global, line: &Value<'_>) -> Result<Command, ReadError>
+fn diff<'a>(alloc: Global, line: &Value<'a>) -> Result<Command<'a>, ReadError>
     ensures { Gives (λ c. c) result (diff_of (view line.now)) }
 {
-    let (namespace, key) = named(alloc, line)?;
+    let (namespace, key) = lent_named(line)?;
     Ok(Command::Diff {
         namespace,
         key,
-        after: text_or_empty(alloc, Field::After, line)?,
+        after: LentText::new(text_or_empty(Field::After, line)?),
         most: number_or(PAGE, Field::Most, line)?,
     })
 }
 
 /// The command of a line that is a call, by its kind.
 #[tactic(auto, unfolding(crate::specs::Commands::call_of))]
-fn call_of(alloc: Global, kind: CallKind, line: &Value<'_>) -> Result<Command, ReadError>
+fn call_of<'a>(alloc: Global, kind: CallKind, line: &Value<'a>) -> Result<Command<'a>, ReadError>
     ensures { Gives (λ c. c) result (call_of kind (view line.now)) }
 {
     match kind {
@@ -319,12 +334,12 @@ fn call_of(alloc: Global, kind: CallKind, line: &Value<'_>) -> Result<Command, R
         CallKind::View => view(alloc, line),
         CallKind::Charge => charge(alloc, line),
         CallKind::Trim => {
-            let (namespace, key) = named(alloc, line)?;
+            let (namespace, key) = lent_named(line)?;
             Ok(Command::Trim { namespace, key })
         }
         CallKind::Commit => commit(alloc, line),
         CallKind::Discard => {
-            let (namespace, key) = named(alloc, line)?;
+            let (namespace, key) = lent_named(line)?;
             Ok(Command::Discard { namespace, key })
         }
         CallKind::Remove => {
@@ -385,12 +400,12 @@ fn lookup_of(verb: LookupVerb, line: &Value<'_>) -> Result<Lookup, Fault>
 
 /// The command of a line by its verb, and by the fields that its operations may have.
 #[tactic(auto, unfolding(crate::specs::Commands::command_of))]
-pub(crate) fn command_of(
+pub(crate) fn command_of<'a>(
     alloc: Global,
     rule: FieldRule,
     verb: Verb,
-    line: &Value<'_>,
-) -> Result<Command, ReadError>
+    line: &Value<'a>,
+) -> Result<Command<'a>, ReadError>
     ensures { Gives (λ c. c) result (command_of rule verb (view line.now)) }
 {
     match verb {
@@ -405,7 +420,7 @@ pub(crate) fn command_of(
         }),
         Verb::Call(kind) => call_of(alloc, kind, line),
         Verb::File(verb) => {
-            let (namespace, key) = named(alloc, line)?;
+            let (namespace, key) = lent_named(line)?;
             Ok(Command::File {
                 namespace,
                 key,
@@ -415,7 +430,7 @@ pub(crate) fn command_of(
         }
         Verb::Batch => batch(alloc, rule, line),
         Verb::Lookup(verb) => {
-            let (namespace, key) = named(alloc, line)?;
+            let (namespace, key) = lent_named(line)?;
             let path = path_in(alloc, Field::Path, line)?;
             Ok(Command::Lookup {
                 namespace,
@@ -426,18 +441,18 @@ pub(crate) fn command_of(
             })
         }
         Verb::Quota => Ok(Command::Quota {
-            namespace: optional_text(alloc, Field::Namespace, line)?,
+            namespace: lent_optional_text(Field::Namespace, line)?,
         }),
         Verb::Leases => Ok(Command::Leases {
-            namespace: text(alloc, Field::Namespace, line)?,
-            lease: optional_text(alloc, Field::Lease, line)?,
+            namespace: LentText::new(lent_text(Field::Namespace, line)?),
+            lease: lent_optional_text(Field::Lease, line)?,
         }),
         Verb::Tree => Ok(Command::Tree {
-            namespace: text(alloc, Field::Namespace, line)?,
+            namespace: LentText::new(lent_text(Field::Namespace, line)?),
         }),
         Verb::Diff => diff(alloc, line),
         Verb::Journal => Ok(Command::Journal {
-            namespace: optional_text(alloc, Field::Namespace, line)?,
+            namespace: lent_optional_text(Field::Namespace, line)?,
             after: number_or(0, Field::After, line)?,
             most: number_or(PAGE, Field::Most, line)?,
             full: is_true(Field::Full, line)?,

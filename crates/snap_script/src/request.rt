@@ -22,17 +22,17 @@ pub enum Id {
 
 /// What was read of a line.
 #[derive(Drop)]
-pub struct Request {
+pub struct Request<'line> {
     /// The id of a line that is an object: its member `id`, where that is a text or a number.
     pub id: Option<Id>,
     /// The line, or why it is none.
-    pub line: Result<Line, Fault>,
+    pub line: Result<Line<'line>, Fault>,
 }
 
-impl Request {
+impl<'line> Request<'line> {
     // A line that is no object.
-    fn without_id(line: Result<Line, Fault>) -> Request
-        ensures { (result.id ≡ None) × (result.line ≡ line) }
+    fn without_id(line: Result<Line<'line>, Fault>) -> Request<'line>
+        ensures { (result.id ≡ None) × (result.line ≡ line.entry) }
     {
         Request { id: None, line }
     }
@@ -54,7 +54,7 @@ fn id_in(alloc: Global, line: &Value<'_>) -> Result<Option<Id>, AllocError>
 }
 
 /// The request of the object that a line is.
-fn request_in(alloc: Global, opened: bool, line: &Value<'_>) -> Result<Request, NoMemory>
+fn request_in<'a>(alloc: Global, opened: bool, line: &Value<'a>) -> Result<Request<'a>, NoMemory>
     ensures { IfOk result (λ request. (request.id ≡ id_in_request (view line.now)) × (request.line ≡ command_in KnownAndId opened (view line.now))) }
 {
     let id = id_in(alloc, line)?;
@@ -70,17 +70,17 @@ fn request_in(alloc: Global, opened: bool, line: &Value<'_>) -> Result<Request, 
 
 /// Reads a line, which stands here without its line feed, with its id. Its fields are those of its command, `do`, `s` and
 /// `id`. `opened` says whether a store was opened. A line of more than 16,777,216 bytes and one that is no object have no
-/// id.
+/// id. The line and the scratch lend the command's texts.
 ///
 /// `NoMemory` where memory for the line's value or for the command was refused. The memory and the cost are those of
 /// [`read_line`](crate::read_line).
 #[tactic(auto, unfolding(crate::specs::Lines::line_of, crate::specs::Lines::command_line, crate::specs::Requests::id_of))]
-pub fn read_request(
+pub fn read_request<'a>(
     alloc: Global,
-    bytes: &[u8],
+    bytes: &'a [u8],
     opened: bool,
-    scratch: &mut Scratch,
-) -> Result<Request, NoMemory>
+    scratch: &'a mut Scratch,
+) -> Result<Request<'a>, NoMemory>
     ensures id { IfOk result (λ request. request.id ≡ id_of bytes.now) }
     ensures line { IfOk result (λ request. request.line ≡ line_of KnownAndId opened bytes.now) }
 {

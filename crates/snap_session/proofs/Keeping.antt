@@ -146,7 +146,7 @@ answers_alike true adds s t line x y same text = marked_answers s line ∙ same 
 answers_alike false true s t line x y same text = ap (λ (a : List ℕ). chained a x) same ∙ ap (λ (l : List ℕ). chained t.answers l) (text refl)
 answers_alike false false s t line x y same text = same
 
-parts : (a b : KeptPart) → a.script ≡ b.script → a.lines ≡ b.lines → a.answers ≡ b.answers → a ≡ b
+pub parts : (a b : KeptPart) → a.script ≡ b.script → a.lines ≡ b.lines → a.answers ≡ b.answers → a ≡ b
 parts a b p q r =
     ap (λ (s : ScriptValue). let k : KeptPart = record { script = s; lines = a.lines; answers = a.answers } in k) p
     ∙ ap (λ (l : List ℕ). let k : KeptPart = record { script = b.script; lines = l; answers = a.answers } in k) q
@@ -222,7 +222,7 @@ pub mark_sums : (v : KeptValue) (line : List ℕ) (e : Effect KeptValue) → is_
 mark_sums v line e is h = sums_are v line e h ∙ ap (λ (t : Bool). sums_by t (v.keeps && would_change v line) v.sums line e.text) is
 
 -- and what changes something is none
-no_mark : (v : KeptValue) (line : List ℕ) → would_change v line ≡ true → is_mark_line line ≡ false
+pub no_mark : (v : KeptValue) (line : List ℕ) → would_change v line ≡ true → is_mark_line line ≡ false
 no_mark v line change = by (is_mark_line line) refl
   where
     by : (t : Bool) → is_mark_line line ≡ t → is_mark_line line ≡ false

@@ -4,7 +4,10 @@ pub mod Entries
 pub mod Serving
 pub mod Asking
 pub mod Keeping
+pub mod ResumeLaws
 pub mod Batching
+mod Carrying
+mod Applying
 mod Paging
 mod Restoring
 mod Told

@@ -14,6 +14,7 @@ use Rattle.snap_world.specs.declared.step.Step.TheVariants.{Locked, Hand}
 use Rattle.snap_world.specs.declared.step.Answer.{Answer as StepAnswer}
 use Rattle.snap_world.specs.World.{Fits, HandValue, WorldValue, hand_at, with_hand}
 use Rattle.snap_world.specs.Layers.{MayHave, open_layer, open_layer_at, with_layer, with_own}
+use Rattle.snap_world.specs.Applied.{is_charged, need_of}
 use Rattle.snap_world.specs.Move.{move}
 use Rattle.snap_world.proofs.Fitting.{fits_move}
 use Rattle.snap_world.proofs.Places.{hand_at-low, hand_at-own}
@@ -21,7 +22,7 @@ use Rattle.snap_world.proofs.Putting.{may_charge, may_operate, own_may}
 use Rattle.snap_script.specs.declared.answer.Answer.{Answer}
 use Rattle.snap_script.specs.declared.answer.RefusedOperation.{RefusedOperation}
 use Rattle.snap_script.specs.Refusals.{refusal_in_answer}
-use Rattle.snap_session.specs.Commands.{all_operated, all_or_none, batch, batch_answer, batch_as, is_charged, need_of, operated, retried, stopped_in, undone}
+use Rattle.snap_session.specs.Commands.{all_operated, all_or_none, batch, batch_answer, batch_as, operated, retried, stopped_in, undone}
 
 -- ---- what the hand may have, it still may
 

@@ -1,19 +1,25 @@
--- The snapshots that were active when a round began, by the namespaces and the records of the state at that time.
-use Rattle.std.specs.Prelude.{ℕ, ◌==◌, if◌then◌else◌, List, [], ◌∷◌, filter_map, slice_get, Option, None, Some}
-use Rattle.std.specs.Option.{option_map}
+-- The snapshots that were active when a round began, by the state at that time.
+use Rattle.std.specs.Prelude.{ℕ, zero, suc, ◌==◌, if◌then◌else◌, List, [], ◌∷◌, ◌++◌, slice_get, Option, None, Some, option_and_then}
+use Rattle.std.specs.Option.{option_map, option_to_list}
 use Rattle.snap_record.specs.declared.record.Record.{Record}
-use Rattle.snap_call.specs.Records.{is_active}
+use Rattle.snap_call.specs.Records.{active_at}
 use Rattle.snap_call.specs.declared.config.Namespace.{Namespace}
+use Rattle.snap_call.specs.declared.state.State.{State}
 use Rattle.snap_session.specs.declared.carried.Carried.{Carried}
 use Rattle.snap_session.specs.declared.carried.SnapshotName.{SnapshotName}
 
--- the snapshot of the record with its namespace's name, where it is active
+-- the snapshot of the record with its namespace's name
 abbrev pub carried_from : List Namespace → Record → Option Carried
-carried_from ns r = if is_active r.content then option_map (λ n. record { id = r.id; name = record { namespace = n.name; key = r.key } }) (slice_get ns r.namespace) else None
+carried_from ns r = option_map (λ n. record { id = r.id; name = record { namespace = n.name; key = r.key } }) (slice_get ns r.namespace)
 
--- the active ones among the records
-abbrev pub carried_of : List Namespace → List Record → List Carried
-carried_of ns rs = filter_map (carried_from ns) rs
+-- those in the slots below this number
+abbrev pub carried_below : ℕ → List Namespace → List Record → List Carried
+carried_below zero ns rs = []
+carried_below (suc slot) ns rs = carried_below slot ns rs ++ option_to_list (option_and_then (carried_from ns) (active_at slot rs))
+
+-- those in all slots of the state
+abbrev pub carried_of : State → List Carried
+carried_of s = carried_below s.slots s.namespaces s.records
 
 -- the name of the one that has this id
 abbrev pub carried_name : ℕ → List Carried → Option SnapshotName

@@ -7,7 +7,7 @@ use Rattle.snap_layer.specs.declared.content.Content.TheVariants as contents
 use Rattle.snap_layer.specs.Tree.{Tree}
 use Rattle.snap_usage.specs.declared.usage.Usage.{Usage}
 use Rattle.snap_usage.specs.Counted.{no_usage}
-use Rattle.snap_merge.specs.declared.error.FsError.TheVariants.{BadPath, NeedsCharge}
+use Rattle.snap_merge.specs.declared.error.FsError.TheVariants.{BadPath}
 use Rattle.snap_merge.specs.Objects.{Object, dir, file, symlink, seen}
 use Rattle.snap_merge.specs.Listing.{listing}
 use Rattle.snap_merge.specs.Reading.{reading}
@@ -34,6 +34,7 @@ use Rattle.snap_world.specs.declared.step.Step.{Step}
 use Rattle.snap_world.specs.declared.step.Step.TheVariants.{Locked, Hand}
 use Rattle.snap_world.specs.declared.step.Answer.{Answer as StepAnswer}
 use Rattle.snap_world.specs.declared.step.Answer.TheVariants as step_answers
+use Rattle.snap_world.specs.Applied.{is_charged, need_of}
 use Rattle.snap_world.specs.World.{WorldValue}
 use Rattle.snap_world.specs.Layers.{open_layer_at, with_layer}
 use Rattle.snap_world.specs.Move.{move}
@@ -99,16 +100,6 @@ abbrev pub on_key : WorldValue → Bytes → Bytes → (ℕ → ℕ → WorldVal
 on_key w namespace key next = world_unless_refused w (λ found. next found.0 found.1) (slot_and_id_of w.state namespace key)
 
 -- ---- file commands
-
--- the charge that an operation needs
-abbrev pub need_of : StepAnswer → Option Usage
-need_of (step_answers.File (Err (NeedsCharge need))) = Some need
-need_of answer = None
-
--- a charge was granted
-abbrev pub is_charged : StepAnswer → Bool
-is_charged (step_answers.Reply (replies.Charged now)) = true
-is_charged answer = false
 
 -- after the charge: the operation again, where it was granted
 abbrev pub retried : ℕ → ℕ → Step → WorldValue × StepAnswer → WorldValue × Answer
@@ -257,7 +248,7 @@ on_store s n (commands.Quota namespace) = (s.world, quota_answer s.world namespa
 on_store s n (commands.Leases namespace lease) = (s.world, leases s.world.state namespace lease)
 on_store s n (commands.Tree namespace) = (s.world, tree s.world.state namespace)
 on_store s n (commands.Diff namespace key after most) = (s.world, diff s.world namespace key after most)
-on_store s n (commands.Journal namespace after most full) = (s.world, journal_of s.world (carried_of s.world.opening.namespaces s.world.opening.records) namespace after most full)
+on_store s n (commands.Journal namespace after most full) = (s.world, journal_of s.world (carried_of s.world.opening) namespace after most full)
 on_store s n commands.Report = (s.world, report s)
 on_store s n (commands.Restore line) = (s.world, refusal_answer BadArgument)
 on_store s n (commands.Save after most) = (s.world, refusal_answer BadArgument)

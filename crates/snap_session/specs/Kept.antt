@@ -1,8 +1,9 @@
 -- What a server answers, line for line, where lines that change its store are kept first; cited by the public clauses of `KeptServer`.
-use Rattle.std.specs.Prelude.{List, ℕ, Bool, true, false, not, ◌&&◌, ◌||◌, if◌then◌else◌, is_some, Result, Ok, Err}
+use Rattle.std.specs.Prelude.{◌≡◌, List, ℕ, Bool, true, false, not, ◌&&◌, ◌||◌, if◌then◌else◌, is_some, Result, Ok, Err}
 use Rattle.snap_script.specs.Changes.{changes_store}
 use Rattle.snap_script.specs.Lines.{line_of}
 use Rattle.snap_script.specs.Requests.{id_of}
+use Rattle.snap_script.specs.declared.command.Command.TheVariants.{Roll}
 use Rattle.snap_script.specs.declared.fault.Fault.{Fault}
 use Rattle.snap_script.specs.declared.line.Line.{Line}
 use Rattle.snap_script.specs.declared.line.Line.TheVariants.{Empty, Command}
@@ -12,9 +13,9 @@ use Rattle.snap_script.specs.declared.unknown.FieldRule.TheVariants.{KnownAndId}
 use Rattle.snap_lines.specs.Effects.{Effect, Effects}
 use Rattle.snap_marks.specs.declared.sums.Sums.{Sums}
 use Rattle.snap_marks.specs.Marks.{is_mark_line}
-use Rattle.snap_marks.specs.Sums.{mark_behind, mark_compared, no_sums, passed, summed}
+use Rattle.snap_marks.specs.Sums.{going_on, mark_behind, mark_compared, no_sums, passed, summed}
 use Rattle.snap_lines.specs.Transcripts.{next_line}
-use Rattle.snap_session.specs.Opened.{ScriptValue}
+use Rattle.snap_session.specs.Opened.{OpenedValue, ScriptValue, only_store}
 use Rattle.snap_session.specs.Script.{SteppedValue}
 use Rattle.snap_session.specs.Service.{ServerValue, effect_responded, idle, responded}
 
@@ -32,9 +33,13 @@ idle_kept = record { server = idle; keeps = true; sums = no_sums }
 abbrev pub kept_so : Bool → KeptValue → KeptValue
 kept_so keeps v = record { server = v.server; keeps = keeps; sums = v.sums }
 
--- the same, and the next line is the first
+-- the same, after so many lines
+abbrev pub counted_from : ℕ → KeptValue → KeptValue
+counted_from lines v = record { server = record { stepped = v.server.stepped; lines = lines }; keeps = v.keeps; sums = v.sums }
+
+-- and the next line is the first
 abbrev pub counted_anew : KeptValue → KeptValue
-counted_anew v = record { server = record { stepped = v.server.stepped; lines = 0 }; keeps = v.keeps; sums = v.sums }
+counted_anew v = counted_from 0 v
 
 -- a store stands, and stands for good
 abbrev pub has_store : KeptValue → Bool
@@ -76,6 +81,16 @@ served_kept v bytes = Ok (effect_summed v bytes (effect_responded (next_line v.s
 -- the mark that is kept behind further lines
 abbrev pub mark_of : KeptValue → List ℕ → List ℕ
 mark_of v lines = mark_behind v.sums lines
+
+-- sums go on from a mark
+abbrev pub gone_on : List ℕ → KeptValue → KeptValue
+gone_on mark v = record { server = v.server; keeps = v.keeps; sums = going_on v.sums mark }
+
+-- a store stands, and nothing else is kept of stores; and what is read of the line is a roll of it to as many entries as its round may have
+pub record IsWholeRoll (v : KeptValue) (line : List ℕ) : Type 0 where
+  pub store : OpenedValue
+  pub stands : v.server.stepped.script ≡ only_store store
+  pub reads : kept_line v.server.stepped.script line ≡ Ok (Command 0 (Roll store.world.limit))
 
 -- what a log is kept of: the script, and the sums of the lines that changed it and of their answers
 pub record KeptPart : Type 0 where

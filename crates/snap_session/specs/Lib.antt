@@ -15,3 +15,4 @@ pub mod Saving
 pub mod Script
 pub mod Service
 pub mod Kept
+pub mod Resumed

@@ -27,6 +27,10 @@ pub record ScriptValue : Type 0 where
 abbrev pub unopened : ScriptValue
 unopened = record { store = None; gathered = None; lost = None; spent = false }
 
+-- a store stands, and nothing else is kept of stores
+abbrev pub only_store : OpenedValue → ScriptValue
+only_store s = record { store = Some s; gathered = None; lost = None; spent = false }
+
 -- the world that a configuration opens
 abbrev pub new_world : Config → WorldValue
 new_world c = record { state = opening c; journal = []; opening = opening c; limit = c.journal; hands = replicate c.slots None }

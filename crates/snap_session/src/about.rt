@@ -162,7 +162,7 @@ fn question_subjects(question: &Question) -> Subjects
 }
 
 // What the refusals of a command are about.
-pub(crate) fn subjects(command: &Command) -> Subjects
+pub(crate) fn subjects(command: &Command<'_>) -> Subjects
     ensures { result ≡ subjects command.now }
 {
     let mut own = Subjects::OF_KEY;

@@ -10,7 +10,7 @@ use crate::step::{call, count_at, share_at, told};
 use snap_call::Call;
 use snap_layer::Layer;
 use snap_ledger::StoreName;
-use snap_record::{Sequence, Text};
+use snap_record::Sequence;
 use snap_script::{Answer, RefusedOperation};
 use snap_upper::Op;
 use snap_usage::Usage;
@@ -182,16 +182,15 @@ fn batch_as<N: StoreName>(
 pub(crate) fn batch<N: StoreName>(
     world: &mut World<N>,
     n: u64,
-    namespace: Text,
-    key: Text,
+    namespace: &str,
+    key: &str,
     need: Usage,
     ops: Sequence<Op>,
     whole: bool,
 ) -> Result<Answer, NoMemory>
-    ensures done { IfOk result (λ answer. on_key world.old namespace key (λ slot id. batch_as whole n namespace key slot id need ops world.old) ≡ (world.new, answer)) }
+    ensures done { IfOk result (λ answer. on_key world.old namespace.now key.now (λ slot id. batch_as whole n namespace.now key.now slot id need ops world.old) ≡ (world.new, answer)) }
     ensures opening { world.new.opening ≡ world.old.opening }
 {
-    let (namespace, key) = (namespace.as_str(), key.as_str());
     match world.hand(namespace, key) {
         Ok((slot, id)) => {
             batch_as(

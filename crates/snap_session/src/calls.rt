@@ -29,15 +29,15 @@ pub(crate) fn session<N: StoreName>(world: &mut World<N>) -> Result<Answer, NoMe
 pub(crate) fn charge<N: StoreName>(
     world: &mut World<N>,
     n: u64,
-    namespace: Text,
-    key: Text,
+    namespace: &str,
+    key: &str,
     need: Usage,
     want: Usage,
 ) -> Result<Answer, NoMemory>
-    ensures done { IfOk result (λ answer. on_key world.old namespace key (λ slot id. stepped n slot (Locked n (calls.Charge slot id need want)) world.old) ≡ (world.new, answer)) }
+    ensures done { IfOk result (λ answer. on_key world.old namespace.now key.now (λ slot id. stepped n slot (Locked n (calls.Charge slot id need want)) world.old) ≡ (world.new, answer)) }
     ensures opening { world.new.opening ≡ world.old.opening }
 {
-    match world.hand(namespace.as_str(), key.as_str()) {
+    match world.hand(namespace, key) {
         Ok((slot, id)) => called(
             world,
             n,
@@ -56,13 +56,13 @@ pub(crate) fn charge<N: StoreName>(
 pub(crate) fn trim<N: StoreName>(
     world: &mut World<N>,
     n: u64,
-    namespace: Text,
-    key: Text,
+    namespace: &str,
+    key: &str,
 ) -> Result<Answer, NoMemory>
-    ensures done { IfOk result (λ answer. on_key world.old namespace key (λ slot id. stepped n slot (Locked n (calls.Trim slot id)) world.old) ≡ (world.new, answer)) }
+    ensures done { IfOk result (λ answer. on_key world.old namespace.now key.now (λ slot id. stepped n slot (Locked n (calls.Trim slot id)) world.old) ≡ (world.new, answer)) }
     ensures opening { world.new.opening ≡ world.old.opening }
 {
-    match world.hand(namespace.as_str(), key.as_str()) {
+    match world.hand(namespace, key) {
         Ok((slot, id)) => called(world, n, slot, Call::Trim { slot, id }),
         Err(why) => Ok(Answer::refused(why)),
     }
@@ -71,16 +71,16 @@ pub(crate) fn trim<N: StoreName>(
 pub(crate) fn commit<N: StoreName>(
     world: &mut World<N>,
     n: u64,
-    namespace: Text,
-    key: Text,
+    namespace: &str,
+    key: &str,
     name: Text,
     lease: Option<Text>,
     labels: Option<Labels>,
 ) -> Result<Answer, NoMemory>
-    ensures done { IfOk result (λ answer. on_key world.old namespace key (λ slot id. stepped n slot (Locked n (calls.Commit slot id name lease labels)) world.old) ≡ (world.new, answer)) }
+    ensures done { IfOk result (λ answer. on_key world.old namespace.now key.now (λ slot id. stepped n slot (Locked n (calls.Commit slot id name lease labels)) world.old) ≡ (world.new, answer)) }
     ensures opening { world.new.opening ≡ world.old.opening }
 {
-    match world.hand(namespace.as_str(), key.as_str()) {
+    match world.hand(namespace, key) {
         Ok((slot, id)) => called(
             world,
             n,
@@ -100,13 +100,13 @@ pub(crate) fn commit<N: StoreName>(
 pub(crate) fn discard<N: StoreName>(
     world: &mut World<N>,
     n: u64,
-    namespace: Text,
-    key: Text,
+    namespace: &str,
+    key: &str,
 ) -> Result<Answer, NoMemory>
-    ensures done { IfOk result (λ answer. on_key world.old namespace key (λ slot id. stepped n slot (Locked n (calls.Discard slot id)) world.old) ≡ (world.new, answer)) }
+    ensures done { IfOk result (λ answer. on_key world.old namespace.now key.now (λ slot id. stepped n slot (Locked n (calls.Discard slot id)) world.old) ≡ (world.new, answer)) }
     ensures opening { world.new.opening ≡ world.old.opening }
 {
-    match world.hand(namespace.as_str(), key.as_str()) {
+    match world.hand(namespace, key) {
         Ok((slot, id)) => called(world, n, slot, Call::Discard { slot, id }),
         Err(why) => Ok(Answer::refused(why)),
     }
@@ -122,19 +122,19 @@ pub(crate) fn ask<N: StoreName>(world: &World<N>, question: Question) -> Result<
 // What a sweep of the namespace would answer. Nothing goes.
 pub(crate) fn try_sweep<N: StoreName>(
     world: &World<N>,
-    namespace: Text,
+    namespace: &str,
     moment: u64,
 ) -> Result<Answer, NoMemory>
-    ensures { IfOk result (λ answer. answer ≡ answers.Reply (sweep world.now.state namespace moment).1) }
+    ensures { IfOk result (λ answer. answer ≡ answers.Reply (sweep world.now.state namespace.now moment).1) }
 {
-    Ok(Answer::Reply(world.plan_sweep(namespace.as_str(), moment)?))
+    Ok(Answer::Reply(world.plan_sweep(namespace, moment)?))
 }
 
 // What the snapshot is charged with its ancestors, or why there is none.
-pub(crate) fn chain_usage<N: StoreName>(world: &World<N>, namespace: Text, key: Text) -> Answer
-    ensures { result ≡ found_or_else (λ usage. answers.Reply (replies.Usage usage)) refusal_answer (chain_usage world.now.state namespace key) }
+pub(crate) fn chain_usage<N: StoreName>(world: &World<N>, namespace: &str, key: &str) -> Answer
+    ensures { result ≡ found_or_else (λ usage. answers.Reply (replies.Usage usage)) refusal_answer (chain_usage world.now.state namespace.now key.now) }
 {
-    match world.chain_usage(namespace.as_str(), key.as_str()) {
+    match world.chain_usage(namespace, key) {
         Ok(usage) => Answer::Reply(Reply::Usage(usage)),
         Err(why) => Answer::refused(why),
     }

@@ -1,9 +1,10 @@
 // The snapshots that were active when a round began.
-ghost use Rattle.std.specs.Prelude.{◌≡◌, IfOk, option_copied};
+ghost use Rattle.std.specs.Prelude.{◌≡◌, IfOk, option_and_then, option_copied};
+ghost use Rattle.snap_call.specs.Records.{active_at};
 ghost use Rattle.snap_session.specs.Carried.{carried_from, carried_name, carried_of};
 
-use snap_call::{Namespace, Records};
-use snap_record::{Content, Record, Sequence, Text};
+use snap_call::{Namespace, State};
+use snap_record::{Record, Sequence, Text};
 use std::alloc::{AllocError, Global};
 
 // What names an active snapshot.
@@ -32,13 +33,10 @@ impl SnapshotName {
     }
 }
 
-// The snapshot of the record, where it is active.
+// The snapshot of the record.
 fn carried_from(namespaces: &[Namespace], snapshot: &Record) -> Result<Option<Carried>, AllocError>
     ensures { IfOk result (λ found. found ≡ carried_from namespaces.now snapshot.now) }
 {
-    let Content::Active { .. } = &snapshot.content else {
-        return Ok(None);
-    };
     let Some(namespace) = namespaces.get(snapshot.namespace) else {
         return Ok(None);
     };
@@ -52,18 +50,23 @@ fn carried_from(namespaces: &[Namespace], snapshot: &Record) -> Result<Option<Ca
     }))
 }
 
-// The active ones among the records, in their order.
-pub(crate) fn carried_of(
-    alloc: Global,
-    namespaces: &[Namespace],
-    records: &Records,
-) -> Result<Sequence<Carried>, AllocError>
-    ensures { IfOk result (λ found. found ≡ carried_of namespaces.now records.now) }
+// The one that is active in the slot.
+fn carried_in(state: &State, slot: u64) -> Result<Option<Carried>, AllocError>
+    ensures { IfOk result (λ found. found ≡ option_and_then (carried_from state.now.namespaces) (active_at slot state.now.records)) }
 {
-    let list = records.list(alloc)?;
+    match state.records.active_at(slot) {
+        Some(snapshot) => carried_from(state.namespaces.as_slice(), snapshot),
+        None => Ok(None),
+    }
+}
+
+// The active ones of the state, by their slots. The cost grows with the number of slots.
+pub(crate) fn carried_of(alloc: Global, state: &State) -> Result<Sequence<Carried>, AllocError>
+    ensures { IfOk result (λ found. found ≡ carried_of state.now) }
+{
     let mut found = Sequence::new(alloc);
-    for record in &list {
-        if let Some(snapshot) = carried_from(namespaces, record)? {
+    for slot in 0..state.slots {
+        if let Some(snapshot) = carried_in(state, slot)? {
             found.push(snapshot)?;
         }
     }

@@ -8,7 +8,7 @@ use snap_layer::{Layer, Shared};
 use snap_ledger::StoreName;
 use snap_merge::FsError;
 use snap_path::{Path, PathError};
-use snap_record::{Sequence, Text};
+use snap_record::Sequence;
 use snap_script::Answer;
 use snap_world::{NoMemory, World};
 use std::alloc::Global;
@@ -60,21 +60,21 @@ fn empty_page(alloc: Global, after: &str, most: u64) -> Result<Answer, NoMemory>
 pub(crate) fn diff<N: StoreName>(
     alloc: Global,
     world: &World<N>,
-    namespace: Text,
-    key: Text,
-    after: Text,
+    namespace: &str,
+    key: &str,
+    after: &str,
     most: u64,
 ) -> Result<Answer, NoMemory>
-    ensures { IfOk result (λ answer. answer ≡ diff world.now namespace key after most) }
+    ensures { IfOk result (λ answer. answer ≡ diff world.now namespace.now key.now after.now most) }
 {
     if !is_page(most) {
         return Ok(Answer::refused(Refusal::BadArgument));
     }
-    if let Some((layer, lowers)) = world.own(namespace.as_str(), key.as_str())? {
-        return page_of(alloc, layer, lowers.as_slice(), after.as_str(), most);
+    if let Some((layer, lowers)) = world.own(namespace, key)? {
+        return page_of(alloc, layer, lowers.as_slice(), after, most);
     }
-    match world.stack(namespace.as_str(), key.as_str()) {
-        Ok(_) => empty_page(alloc, after.as_str(), most),
+    match world.stack(namespace, key) {
+        Ok(_) => empty_page(alloc, after, most),
         Err(why) => Ok(Answer::refused(why)),
     }
 }

@@ -7,7 +7,7 @@ use snap_call::{Call, Entry, Refusal, Reply, SharedEntry, is_page};
 use snap_history::{EntryInfo, entries_after, history, namespace_in};
 use snap_ledger::StoreName;
 use snap_record::{Sequence, Text};
-use snap_script::{Answer, JournalEntry};
+use snap_script::{Answer, JournalEntry, LentText};
 use snap_values::call_line;
 use snap_world::{NoMemory, World};
 use std::alloc::{AllocError, Global};
@@ -228,14 +228,13 @@ fn journal_in<N: StoreName>(
     alloc: Global,
     world: &World<N>,
     carried: &[Carried],
-    namespace: Text,
+    name: &str,
     after: u64,
     most: u64,
     full: bool,
 ) -> Result<Answer, NoMemory>
-    ensures { IfOk result (λ answer. answer ≡ journal_in world.now carried.now after most full namespace) }
+    ensures { IfOk result (λ answer. answer ≡ journal_in world.now carried.now after most full name.now) }
 {
-    let name = namespace.as_str();
     let Some(charge) = world.totals(name) else {
         return Ok(Answer::refused(Refusal::NoNamespace));
     };
@@ -278,18 +277,18 @@ pub(crate) fn journal<N: StoreName>(
     alloc: Global,
     world: &World<N>,
     carried: &[Carried],
-    namespace: Option<Text>,
+    namespace: Option<LentText<'_>>,
     after: u64,
     most: u64,
     full: bool,
 ) -> Result<Answer, NoMemory>
-    ensures { IfOk result (λ answer. answer ≡ journal_of world.now carried.now namespace after most full) }
+    ensures { IfOk result (λ answer. answer ≡ journal_of world.now carried.now namespace.entry after most full) }
 {
     if !is_page(most) {
         return Ok(Answer::refused(Refusal::BadArgument));
     }
     match namespace {
-        Some(name) => journal_in(alloc, world, carried, name, after, most, full),
+        Some(name) => journal_in(alloc, world, carried, name.as_str(), after, most, full),
         None => journal_all(alloc, world, carried, after, most, full),
     }
 }

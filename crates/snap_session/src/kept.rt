@@ -1,36 +1,46 @@
-ghost use Rattle.std.specs.Prelude.{◌≡◌, ◌||◌, if◌then◌else◌, not, IfOk, OnOk, option_copied, option_map};
+ghost use Rattle.std.specs.Prelude.{◌≡◌, ◌||◌, if◌then◌else◌, not, IfOk, IsTrue, Ok, OnOk, option_copied, option_map};
 ghost use Rattle.snap_marks.specs.Marks.{is_mark_line};
-ghost use Rattle.snap_marks.specs.Sums.{marks_agree, mark_compared, passed, rebased_mark, summed};
+ghost use Rattle.snap_marks.specs.Sums.{continued_mark, marks_agree, mark_compared, passed, rebased_mark, summed};
 ghost use Rattle.snap_script.specs.Requests.{id_of};
-ghost use Rattle.snap_lines.specs.Transcripts.{next_line};
+ghost use Rattle.snap_script.specs.declared.command.Command.TheVariants.{Roll};
+ghost use Rattle.snap_script.specs.declared.line.Line.TheVariants.{Command as LineCommand, Empty};
+ghost use Rattle.snap_script.specs.declared.response.Response.TheVariants.{NotKept};
+ghost use Rattle.snap_script.specs.declared.unknown.FieldRule.TheVariants.{KnownAndId};
+ghost use Rattle.snap_script.specs.Lines.{line_of};
 ghost use Rattle.snap_session.specs.Saving.{SavesRolled, saving_of};
-ghost use Rattle.snap_session.specs.Kept.{counted_anew, has_store, idle_kept, is_changing, kept_line, kept_so, mark_of, responded_kept, served_kept, would_change};
+ghost use Rattle.snap_session.specs.Service.{responded};
+ghost use Rattle.snap_session.specs.Kept.{counted_anew, counted_from, gone_on, has_store, idle_kept, is_changing, kept_so, mark_of, served_kept, would_change, IsWholeRoll};
 
 use crate::saving::{Saving, saved_by};
-use crate::server::Server;
+use crate::server::respond;
+use crate::stepper::Stepper;
 use snap_ledger::{NewTable, StoreName};
 use snap_lines::{KeepLine, TakeLine};
 use snap_marks::{Sums, is_mark};
-use snap_script::{Fault, Line, ReadError, Request, Response};
+use snap_script::{Command, Fault, Line, ReadError, Request, Response, Scratch, read_request};
 use snap_world::{NoMemory, World};
 use std::alloc::{AllocError, Global};
 use std::marker::Model;
 
-/// A [`Server`] for which lines that change its store are kept, as in a log, before they are carried out. Contracts see
-/// the server, whether such lines are carried out, and the sums of those that were, and of their answers.
+/// A [`Server`](crate::Server) for which lines that change its store are kept, as in a log, before they are carried out.
+/// Contracts see the server, whether such lines are carried out, and the sums of those that were, and of their answers.
 pub struct KeptServer<N: StoreName> {
-    server: Server<N>,
+    stepper: Stepper<N>,
+    lines: u64,
     keeps: bool,
     sums: Sums,
+    scratch: Scratch,
 }
 
 // By hand: a derived one is proved anew, part by part, wherever a value is let go.
 impl<N: StoreName> Drop for KeptServer<N> {
     fn drop(self) {
         let KeptServer {
-            server: _,
+            stepper: _,
+            lines: _,
             keeps: _,
             sums: _,
+            scratch: _,
         } = self;
     }
 }
@@ -40,11 +50,11 @@ impl<N: StoreName> Model for KeptServer<N> {
 
     ghost Value = { KeptValue };
 
-    ghost view = { λ s. record { server = s.server; keeps = s.keeps; sums = s.sums } };
+    ghost view = { λ s. record { server = record { stepped = s.stepper; lines = s.lines }; keeps = s.keeps; sums = s.sums } };
 }
 
 // Whether what was read of a line may change a store, or opens one.
-fn is_changing(line: &Result<Line, Fault>) -> bool
+fn is_changing(line: &Result<Line<'_>, Fault>) -> bool
     ensures { result ≡ is_changing line.now }
 {
     match line {
@@ -54,10 +64,71 @@ fn is_changing(line: &Result<Line, Fault>) -> bool
 }
 
 // Whether what was read of a line is carried out.
-fn is_carried_out(keeps: bool, line: &Result<Line, Fault>) -> bool
+fn is_carried_out(keeps: bool, line: &Result<Line<'_>, Fault>) -> bool
     ensures { result ≡ (keeps || not (is_changing line.now)) }
 {
     keeps || !is_changing(line)
+}
+
+// Whether what was read of a line is a roll of session 0 to as many entries.
+fn is_roll(line: &Result<Line<'_>, Fault>, most: u64) -> bool
+    ensures { IsTrue result → line.now ≡ Ok (LineCommand 0 (Roll most)) }
+{
+    match line {
+        Ok(
+            Line::Command {
+                session: 0,
+                command: Command::Roll { journal },
+            },
+        ) => *journal == most,
+        Ok(Line::Command { .. } | Line::Empty) | Err(_) => false,
+    }
+}
+
+// Reads a line with its id. A mark is passed over.
+fn read_kept<'a>(
+    alloc: Global,
+    opened: bool,
+    line: &'a [u8],
+    scratch: &'a mut Scratch,
+) -> Result<Request<'a>, NoMemory>
+    ensures id { IfOk result (λ request. request.id ≡ id_of line.now) }
+    ensures line { IfOk result (λ request. request.line ≡ (if is_mark_line line.now then Ok Empty else line_of KnownAndId opened line.now)) }
+{
+    let mut request = read_request(alloc, line, opened, scratch)?;
+    if is_mark(line) {
+        request.line = Ok(Line::Empty);
+    }
+    Ok(request)
+}
+
+// Whether what is read of a line is a roll of session 0 to as many entries.
+fn reads_roll(
+    alloc: Global,
+    opened: bool,
+    line: &[u8],
+    most: u64,
+    scratch: &mut Scratch,
+) -> Result<bool, NoMemory>
+    ensures { IfOk result (λ is. IsTrue is → (if is_mark_line line.now then Ok Empty else line_of KnownAndId opened line.now) ≡ Ok (LineCommand 0 (Roll most))) }
+{
+    let request = read_kept(alloc, opened, line, scratch)?;
+    Ok(is_roll(&request.line, most))
+}
+
+// Carries out what was read of the line of this number, or passes over it.
+fn respond_kept<N: StoreName>(
+    stepper: &mut Stepper<N>,
+    keeps: bool,
+    number: u64,
+    line: Result<Line<'_>, Fault>,
+) -> Result<Response, NoMemory>
+    ensures { IfOk result (λ response. (if keeps || not (is_changing line.entry) then responded stepper.old number line.entry else (stepper.old, NotKept)) ≡ (stepper.new, response)) }
+{
+    if is_carried_out(keeps, &line) {
+        return respond(stepper, number, line);
+    }
+    Ok(Response::NotKept)
 }
 
 impl<N: StoreName> KeptServer<N> {
@@ -68,9 +139,11 @@ impl<N: StoreName> KeptServer<N> {
         ensures { result ≡ idle_kept }
     {
         KeptServer {
-            server: Server::new(alloc, table),
+            stepper: Stepper::new(alloc, table),
+            lines: 0,
             keeps: true,
             sums: Sums::new(),
+            scratch: Scratch::new(alloc),
         }
     }
 
@@ -79,7 +152,21 @@ impl<N: StoreName> KeptServer<N> {
     pub fn begin_input(&mut self)
         ensures { self.new ≡ counted_anew self.old }
     {
-        self.server.count_anew();
+        self.lines = 0;
+    }
+
+    /// How many lines were answered since then. Takes no memory.
+    pub fn lines(&self) -> u64
+        ensures { result ≡ self.now.server.lines }
+    {
+        self.lines
+    }
+
+    /// Numbers lines on from this many. So a line of its own isn't counted among those of the input. Takes no memory.
+    pub fn count_from(&mut self, lines: u64)
+        ensures { self.new ≡ counted_from lines self.old }
+    {
+        self.lines = lines;
     }
 
     /// Whether each mark among the lines agreed with those before it and with their answers, and the last line was one,
@@ -101,7 +188,7 @@ impl<N: StoreName> KeptServer<N> {
     pub fn world(&self) -> Option<&World<N>>
         ensures { option_copied result ≡ option_map (λ opened. opened.world) self.now.server.stepped.script.store }
     {
-        self.server.world()
+        self.stepper.world()
     }
 
     /// The mark from which on marks are compared anew, without its line feed.
@@ -129,30 +216,41 @@ impl<N: StoreName> KeptServer<N> {
         }
     }
 
-    // Reads a line with its id.
-    fn read(&mut self, alloc: Global, line: &[u8]) -> Result<Request, NoMemory>
-        ensures id { IfOk result (λ request. request.id ≡ id_of line.now) }
-        ensures line { IfOk result (λ request. request.line ≡ kept_line self.old.server.stepped.script line.now) }
+    /// Whether a line, which stands here without its line feed, is a `roll` of session 0 to as many entries as the round
+    /// may have, where a store stands, and nothing is kept of another. Takes memory for the line's texts.
+    pub fn rolls(&mut self, alloc: Global, line: &[u8]) -> Result<bool, NoMemory>
+        ensures rolls { IfOk result (λ is. IsTrue is → IsWholeRoll self.old line.now) }
         ensures same { self.new ≡ self.old }
     {
-        let mut request = self.server.read(alloc, line)?;
-        if is_mark(line) {
-            request.line = Ok(Line::Empty);
-        }
-        Ok(request)
+        let Some(world) = self.stepper.only_world() else {
+            return Ok(false);
+        };
+        let most = world.most_entries();
+        let opened = self.stepper.is_open();
+        reads_roll(alloc, opened, line, most, &mut self.scratch)
     }
 
-    // Carries out what was read of the next line, or passes over it.
-    fn respond(&mut self, line: Result<Line, Fault>) -> Result<Response, NoMemory>
-        ensures stepped { IfOk result (λ response. responded_kept self.old line ≡ (self.new.server.stepped, response)) }
-        ensures lines { OnOk result (self.new.server.lines ≡ next_line self.old.server.lines) }
-        ensures keeps { OnOk result (self.new.keeps ≡ self.old.keeps) }
-        ensures sums { OnOk result (self.new.sums ≡ self.old.sums) }
+    /// The mark from which on sums go on, without its line feed.
+    ///
+    /// `AllocError` where memory for its bytes was refused.
+    pub fn continued(&self, alloc: Global) -> Result<Vec<u8>, AllocError>
+        ensures { IfOk result (λ line. line.items ≡ continued_mark self.now.sums) }
     {
-        if is_carried_out(self.keeps, &line) {
-            return self.server.respond(line);
-        }
-        Ok(self.server.pass_over())
+        self.sums.continued(alloc)
+    }
+
+    /// Lets sums go on from such a mark, which stands here without its line feed. Takes no memory.
+    pub fn go_on(&mut self, mark: &[u8])
+        ensures { self.new ≡ gone_on mark.now self.old }
+    {
+        self.sums.go_on(mark);
+    }
+
+    // The same with these sums.
+    pub(crate) fn set_sums(&mut self, sums: Sums)
+        ensures { self.new ≡ record { server = self.old.server; keeps = self.old.keeps; sums = sums } }
+    {
+        self.sums = sums;
     }
 }
 
@@ -183,12 +281,14 @@ impl<N: StoreName> TakeLine for KeptServer<N> {
 
     #[tactic(auto, unfolding(crate::specs::Kept::served_kept))]
     fn take_line(&mut self, alloc: Global, line: &[u8]) -> Result<Option<String>, ReadError> {
-        let request = match self.read(alloc, line) {
+        let opened = self.stepper.is_open();
+        let request = match read_kept(alloc, opened, line, &mut self.scratch) {
             Ok(request) => request,
             Err(shortage) => return Err(ReadError::OutOfMemory(shortage)),
         };
         let adds = self.keeps && is_changing(&request.line);
-        let response = self.respond(request.line)?;
+        self.lines = self.lines.saturating_add(1);
+        let response = respond_kept(&mut self.stepper, self.keeps, self.lines, request.line)?;
         let text = response.line(alloc, &request.id)?;
         add_line(alloc, &mut self.sums, adds, line, text.as_bytes())?;
         Ok(Some(text))
@@ -205,9 +305,9 @@ impl<N: StoreName> KeepLine for KeptServer<N> {
     ghost mark = { mark_of };
 
     fn is_change(&mut self, alloc: Global, line: &[u8]) -> Result<bool, NoMemory> {
-        let request = self.read(alloc, line)?;
-        let read = request.line;
-        Ok(is_changing(&read))
+        let opened = self.stepper.is_open();
+        let request = read_kept(alloc, opened, line, &mut self.scratch)?;
+        Ok(is_changing(&request.line))
     }
 
     fn set_keeping(&mut self, keeps: bool) {
@@ -215,7 +315,7 @@ impl<N: StoreName> KeepLine for KeptServer<N> {
     }
 
     fn is_settled(&self) -> bool {
-        self.server.is_open()
+        self.stepper.is_open()
     }
 
     fn mark_behind(&self, alloc: Global, lines: &[u8]) -> Result<Vec<u8>, AllocError> {

@@ -5,8 +5,8 @@ ghost use Rattle.snap_session.specs.Leases.{leases, one_lease};
 use snap_call::Refusal;
 use snap_lease::LeaseInfo;
 use snap_ledger::StoreName;
-use snap_record::{Sequence, Text};
-use snap_script::Answer;
+use snap_record::Sequence;
+use snap_script::{Answer, LentText};
 use snap_world::{NoMemory, World};
 use std::alloc::{AllocError, Global};
 
@@ -25,12 +25,11 @@ fn one_lease(alloc: Global, info: Option<LeaseInfo>) -> Result<Answer, AllocErro
 pub(crate) fn leases<N: StoreName>(
     alloc: Global,
     world: &World<N>,
-    namespace: Text,
-    lease: Option<Text>,
+    namespace: &str,
+    lease: Option<LentText<'_>>,
 ) -> Result<Answer, NoMemory>
-    ensures { IfOk result (λ answer. answer ≡ leases world.now.state namespace lease) }
+    ensures { IfOk result (λ answer. answer ≡ leases world.now.state namespace.now lease.entry) }
 {
-    let namespace = namespace.as_str();
     if world.state().place_of(namespace).is_none() {
         return Ok(Answer::refused(Refusal::NoNamespace));
     }

@@ -4,7 +4,7 @@
 //! What is written is one definition, `script` in `specs/Script.antt`: the transcript of `snap_lines`, where
 //! each line does what its command does. That is `command_done` in `specs/Commands.antt`, over the steps of a world.
 //! What a server writes, which answers each line, is `service` in `specs/Service.antt`. What a line does where the store's
-//! changes are kept is `served_kept` in `specs/Kept.antt`.
+//! changes are kept is `served_kept` in `specs/Kept.antt`, and what one of a log does `resumed_kept` in `specs/Resumed.antt`.
 #![tactic(auto)]
 
 mod about;
@@ -21,6 +21,7 @@ mod opened;
 mod pages;
 mod quota;
 mod restore;
+mod resuming;
 mod room;
 mod round;
 mod run;
@@ -32,6 +33,7 @@ mod stepper;
 mod tree;
 
 pub use kept::KeptServer;
+pub use resuming::Resuming;
 pub use run::{RunOptions, Runner, replay, replay_within};
 pub use saving::Saving;
 pub use script::Script;

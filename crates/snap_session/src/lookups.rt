@@ -8,7 +8,7 @@ use snap_layer::{Bytes, Content, Meta};
 use snap_ledger::StoreName;
 use snap_merge::{FsError, Seen, Stack};
 use snap_path::Path;
-use snap_record::{Sequence, Text};
+use snap_record::Sequence;
 use snap_script::{Answer, Lookup, Shown};
 use snap_world::{NoMemory, World};
 use std::alloc::{AllocError, Global};
@@ -154,21 +154,21 @@ fn lookup_in(
 pub(crate) fn lookup<N: StoreName>(
     alloc: Global,
     world: &World<N>,
-    namespace: Text,
-    key: Text,
+    namespace: &str,
+    key: &str,
     asked: Lookup,
     path: Option<Path>,
     peek: bool,
 ) -> Result<Answer, NoMemory>
-    ensures { IfOk result (λ answer. answer ≡ lookup asked path (layers_at world.now namespace key peek)) }
+    ensures { IfOk result (λ answer. answer ≡ lookup asked path (layers_at world.now namespace.now key.now peek)) }
 {
     if peek {
-        if let Some((layer, lowers)) = world.peek(namespace.as_str(), key.as_str())? {
+        if let Some((layer, lowers)) = world.peek(namespace, key)? {
             let stack = Stack::over(layer, lowers.as_slice());
             return lookup_in(alloc, asked, path, &stack);
         }
     }
-    match world.stack(namespace.as_str(), key.as_str()) {
+    match world.stack(namespace, key) {
         Ok(stack) => lookup_in(alloc, asked, path, &stack),
         Err(why) => Ok(Answer::refused(why)),
     }

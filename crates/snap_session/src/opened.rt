@@ -42,7 +42,7 @@ impl<N: StoreName> Model for Opened<N> {
 
     ghost view = { λ s. record { world = s.world } };
 
-    ghost invariant = { λ s. s.carried ≡ carried_of s.world.opening.namespaces s.world.opening.records };
+    ghost invariant = { λ s. s.carried ≡ carried_of s.world.opening };
 }
 
 // What the namespace of this name is charged.
@@ -101,11 +101,11 @@ fn on_store<N: StoreName>(
     world: &mut World<N>,
     carried: &mut Sequence<Carried>,
     n: u64,
-    command: Command,
+    command: Command<'_>,
 ) -> Result<Answer, NoMemory>
-    requires { carried.old ≡ carried_of world.old.opening.namespaces world.old.opening.records }
-    ensures done { IfOk result (λ answer. on_store (record { world = world.old }) n command ≡ (world.new, answer)) }
-    ensures carried { carried.new ≡ carried_of world.new.opening.namespaces world.new.opening.records }
+    requires { carried.old ≡ carried_of world.old.opening }
+    ensures done { IfOk result (λ answer. on_store (record { world = world.old }) n command.entry ≡ (world.new, answer)) }
+    ensures carried { carried.new ≡ carried_of world.new.opening }
 {
     match command {
         Command::Open { config: _ } | Command::Restore(_) | Command::Save { after: _, most: _ } =>
@@ -120,47 +120,74 @@ fn on_store<N: StoreName>(
             key,
             need,
             want,
-        } => charge(world, n, namespace, key, need, want),
-        Command::Trim { namespace, key } => trim(world, n, namespace, key),
+        } => charge(world, n, namespace.as_str(), key.as_str(), need, want),
+        Command::Trim { namespace, key } => trim(world, n, namespace.as_str(), key.as_str()),
         Command::Commit {
             namespace,
             key,
             name,
             lease,
             labels,
-        } => commit(world, n, namespace, key, name, lease, labels),
-        Command::Discard { namespace, key } => discard(world, n, namespace, key),
+        } => commit(
+            world,
+            n,
+            namespace.as_str(),
+            key.as_str(),
+            name,
+            lease,
+            labels,
+        ),
+        Command::Discard { namespace, key } => discard(world, n, namespace.as_str(), key.as_str()),
         Command::File {
             namespace,
             key,
             operation,
             extra,
-        } => file(world, n, namespace, key, operation, extra),
+        } => file(world, n, namespace.as_str(), key.as_str(), operation, extra),
         Command::Batch {
             namespace,
             key,
             need,
             ops,
             whole,
-        } => batch(world, n, namespace, key, need, ops, whole),
+        } => batch(world, n, namespace.as_str(), key.as_str(), need, ops, whole),
         Command::Lookup {
             namespace,
             key,
             lookup: asked,
             path,
             peek,
-        } => lookup(alloc, world, namespace, key, asked, path, peek),
-        Command::TrySweep { namespace, moment } => try_sweep(world, namespace, moment),
-        Command::ChainUsage { namespace, key } => Ok(chain_usage(world, namespace, key)),
+        } => lookup(
+            alloc,
+            world,
+            namespace.as_str(),
+            key.as_str(),
+            asked,
+            path,
+            peek,
+        ),
+        Command::TrySweep { namespace, moment } => try_sweep(world, namespace.as_str(), moment),
+        Command::ChainUsage { namespace, key } => Ok(chain_usage(
+            world,
+            namespace.as_str(),
+            key.as_str(),
+        )),
         Command::Quota { namespace } => quota(alloc, world, namespace),
-        Command::Leases { namespace, lease } => leases(alloc, world, namespace, lease),
-        Command::Tree { namespace } => tree(alloc, world, namespace),
+        Command::Leases { namespace, lease } => leases(alloc, world, namespace.as_str(), lease),
+        Command::Tree { namespace } => tree(alloc, world, namespace.as_str()),
         Command::Diff {
             namespace,
             key,
             after,
             most,
-        } => diff(alloc, world, namespace, key, after, most),
+        } => diff(
+            alloc,
+            world,
+            namespace.as_str(),
+            key.as_str(),
+            after.as_str(),
+            most,
+        ),
         Command::Journal {
             namespace,
             after,
@@ -193,7 +220,7 @@ impl<N: StoreName> Opened<N> {
 
     // The world of a saved store, with the snapshots that were active when it was saved.
     pub(crate) fn with_carried(world: World<N>, carried: Sequence<Carried>) -> Opened<N>
-        requires { carried ≡ carried_of world.opening.namespaces world.opening.records }
+        requires { carried ≡ carried_of world.opening }
         ensures { result ≡ record { world = world } }
     {
         Opened { world, carried }
@@ -211,9 +238,9 @@ impl<N: StoreName> Opened<N> {
         &mut self,
         alloc: Global,
         n: u64,
-        command: Command,
+        command: Command<'_>,
     ) -> Result<Answer, NoMemory>
-        ensures { IfOk result (λ answer. with_world self.old (told_on_store self.old n command) ≡ (Some self.new, answer)) }
+        ensures { IfOk result (λ answer. with_world self.old (told_on_store self.old n command.entry) ≡ (Some self.new, answer)) }
     {
         let own = subjects(&command);
         let answer = on_store(alloc, &mut self.world, &mut self.carried, n, command)?;

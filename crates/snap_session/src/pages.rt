@@ -123,7 +123,7 @@ impl Pages {
         if let Err(why) = world.test_save() {
             return Ok(Answer::refused(why));
         }
-        self.lines = Some(StoreLines::begin(alloc, world.save(alloc)?)?);
+        self.lines = Some(StoreLines::hold(alloc, world.hold(alloc)?)?);
         Ok(self.next_page(alloc, most)?)
     }
 

@@ -5,7 +5,7 @@ ghost use Rattle.snap_session.specs.Quota.{named_quota, one_quota, quota_answer,
 use snap_call::{Namespace, Refusal};
 use snap_ledger::StoreName;
 use snap_record::{Sequence, Text};
-use snap_script::{Answer, QuotaInfo};
+use snap_script::{Answer, LentText, QuotaInfo};
 use snap_world::{NoMemory, Quota, World};
 use std::alloc::{AllocError, Global};
 
@@ -23,19 +23,21 @@ fn quota_info(quota: Quota) -> QuotaInfo
 }
 
 fn named_quota<N: StoreName>(
+    alloc: Global,
     world: &World<N>,
-    name: &Text,
+    name: &str,
 ) -> Result<Option<(Text, QuotaInfo)>, AllocError>
     ensures { IfOk result (λ found. found ≡ named_quota world.now name.now) }
 {
-    match world.quota(name.as_str()) {
-        Some(quota) => Ok(Some((name.clone()?, quota_info(quota)))),
+    match world.quota(name) {
+        Some(quota) => Ok(Some((Text::copy_of(alloc, name)?, quota_info(quota)))),
         None => Ok(None),
     }
 }
 
 // The same, where a namespace stands there.
 fn quota_of_place<N: StoreName>(
+    alloc: Global,
     world: &World<N>,
     namespace: &Namespace,
 ) -> Result<Option<(Text, QuotaInfo)>, AllocError>
@@ -44,7 +46,7 @@ fn quota_of_place<N: StoreName>(
     if !namespace.is_taken() {
         return Ok(None);
     }
-    named_quota(world, &namespace.name)
+    named_quota(alloc, world, namespace.name.as_str())
 }
 
 fn quotas<N: StoreName>(
@@ -55,7 +57,7 @@ fn quotas<N: StoreName>(
 {
     let mut found = Sequence::new(alloc);
     for namespace in world.state().namespaces.as_slice() {
-        if let Some(quota) = quota_of_place(world, namespace)? {
+        if let Some(quota) = quota_of_place(alloc, world, namespace)? {
             found.push(quota)?;
         }
     }
@@ -77,12 +79,12 @@ fn one_quota(alloc: Global, quota: Option<(Text, QuotaInfo)>) -> Result<Answer, 
 pub(crate) fn quota<N: StoreName>(
     alloc: Global,
     world: &World<N>,
-    namespace: Option<Text>,
+    namespace: Option<LentText<'_>>,
 ) -> Result<Answer, NoMemory>
-    ensures { IfOk result (λ answer. answer ≡ quota_answer world.now namespace) }
+    ensures { IfOk result (λ answer. answer ≡ quota_answer world.now namespace.entry) }
 {
     match namespace {
         None => Ok(Answer::Quota(quotas(alloc, world)?)),
-        Some(name) => Ok(one_quota(alloc, named_quota(world, &name)?)?),
+        Some(name) => Ok(one_quota(alloc, named_quota(alloc, world, name.as_str())?)?),
     }
 }

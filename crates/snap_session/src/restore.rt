@@ -55,7 +55,7 @@ pub(crate) fn begun_again<N: StoreName>(
     ensures refused { IfErr result (λ fault. (begun_again saved ≡ Err fault) ⊎ (fault ≡ faults.OutOfMemory no_memory)) }
 {
     let mut world = World::restore(alloc, table, saved)?;
-    let carried = carried_of(alloc, world.state().namespaces.as_slice(), world.records())?;
+    let carried = carried_of(alloc, world.state())?;
     match open_round(&mut world) {
         Ok(answer) => Ok((Opened::with_carried(world, carried), answer)),
         Err(no_memory) => Err(RestoreFault::OutOfMemory(no_memory)),

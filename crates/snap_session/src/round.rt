@@ -53,13 +53,12 @@ pub(crate) fn reopen<N: StoreName>(
     carried: &mut Sequence<Carried>,
     journal: u64,
 ) -> Result<Answer, NoMemory>
-    requires { carried.old ≡ carried_of world.old.opening.namespaces world.old.opening.records }
+    requires { carried.old ≡ carried_of world.old.opening }
     ensures done { IfOk result (λ answer. reopen world.old journal ≡ (world.new, answer)) }
-    ensures carried { carried.new ≡ carried_of world.new.opening.namespaces world.new.opening.records }
+    ensures carried { carried.new ≡ carried_of world.new.opening }
 {
     world.reserve_session()?;
-    let namespaces = world.state().namespaces.as_slice();
-    let active = carried_of(alloc, namespaces, world.records())?;
+    let active = carried_of(alloc, world.state())?;
     match world.reopen(journal) {
         Ok(()) => {
             *carried = active;
@@ -77,13 +76,12 @@ pub(crate) fn roll<N: StoreName>(
     carried: &mut Sequence<Carried>,
     journal: u64,
 ) -> Result<Answer, NoMemory>
-    requires { carried.old ≡ carried_of world.old.opening.namespaces world.old.opening.records }
+    requires { carried.old ≡ carried_of world.old.opening }
     ensures done { IfOk result (λ answer. roll world.old journal ≡ (world.new, answer)) }
-    ensures carried { carried.new ≡ carried_of world.new.opening.namespaces world.new.opening.records }
+    ensures carried { carried.new ≡ carried_of world.new.opening }
 {
     world.reserve_session()?;
-    let namespaces = world.state().namespaces.as_slice();
-    let active = carried_of(alloc, namespaces, world.records())?;
+    let active = carried_of(alloc, world.state())?;
     match world.roll(journal) {
         Ok(()) => {
             *carried = active;

@@ -28,6 +28,6 @@ pub(crate) fn saved_by<N: StoreName>(alloc: Global, world: &World<N>) -> Result<
     if let Err(why) = world.test_save() {
         return Ok(Saving::Refused(why));
     }
-    let saved = world.save(alloc)?;
-    Ok(Saving::Lines(StoreLines::begin(alloc, saved)?))
+    let held = world.hold(alloc)?;
+    Ok(Saving::Lines(StoreLines::hold(alloc, held)?))
 }

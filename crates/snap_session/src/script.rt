@@ -1,4 +1,4 @@
-ghost use Rattle.std.specs.Prelude.{◌≡◌, ◌≤◌, [], IfOk, OnOk, None, true, false, is_some, option_copied, option_map};
+ghost use Rattle.std.specs.Prelude.{◌≡◌, ◌≤◌, [], IfOk, IfSome, OnOk, None, true, false, is_some, option_copied, option_map};
 ghost use Rattle.snap_call.specs.Forms.{is_config};
 ghost use Rattle.snap_call.specs.declared.call.Call.TheVariants as calls;
 ghost use Rattle.snap_script.specs.Changes.{changes_store};
@@ -6,7 +6,7 @@ ghost use Rattle.snap_world.specs.declared.step.Answer.{Answer as StepAnswer};
 ghost use Rattle.snap_world.specs.declared.step.Step.TheVariants.{Locked};
 ghost use Rattle.snap_world.specs.Move.{move};
 ghost use Rattle.snap_session.specs.Commands.{is_started, store_begun};
-ghost use Rattle.snap_session.specs.Opened.{new_world, unopened};
+ghost use Rattle.snap_session.specs.Opened.{new_world, only_store, unopened};
 ghost use Rattle.snap_session.specs.Restoring.{begun_again, restored_by, store_restored};
 ghost use Rattle.snap_session.specs.Script.{first_done, opened_by, script_done, with_store};
 
@@ -193,9 +193,9 @@ impl<N: StoreName> Script<N> {
     }
 
     // A command where no store stands.
-    fn begin(&mut self, command: Command) -> Result<Answer, NoMemory>
+    fn begin(&mut self, command: Command<'_>) -> Result<Answer, NoMemory>
         requires { self.old.store ≡ None }
-        ensures { IfOk result (λ answer. first_done self.old command ≡ (self.new, answer)) }
+        ensures { IfOk result (λ answer. first_done self.old command.entry ≡ (self.new, answer)) }
     {
         match command {
             Command::Open { config } => self.open(config),
@@ -205,8 +205,8 @@ impl<N: StoreName> Script<N> {
     }
 
     // A command by a session of this number.
-    fn carry_out(&mut self, n: u64, command: Command) -> Result<Answer, NoMemory>
-        ensures { IfOk result (λ answer. script_done self.old n command ≡ (self.new, answer)) }
+    fn carry_out(&mut self, n: u64, command: Command<'_>) -> Result<Answer, NoMemory>
+        ensures { IfOk result (λ answer. script_done self.old n command.entry ≡ (self.new, answer)) }
     {
         match &mut self.store {
             Some(opened) => opened.act(self.alloc, n, command),
@@ -224,6 +224,16 @@ impl<N: StoreName> Script<N> {
         }
     }
 
+    // The world, where a store stands and nothing else is kept of stores.
+    pub(crate) fn only_world(&self) -> Option<&World<N>>
+        ensures { IfSome result (λ world. self.now ≡ only_store (record { world = world.now })) }
+    {
+        if self.gathering.has_begun() || self.lost.is_some() || self.refused.is_some() {
+            return None;
+        }
+        self.world()
+    }
+
     /// A command by a session of this number: its answer, and what it makes of the store.
     ///
     /// Without a store every command but `Open` and `Restore` is answered `NoSession`; with one, these are refused as
@@ -235,9 +245,9 @@ impl<N: StoreName> Script<N> {
     /// that of the command's steps, at most three, but of a batch one and at most three for each operation, and for a
     /// whole one a copy of the layer; of a `Restore` that of [`LineGathering::put`], and for the last line also that of
     /// [`World::restore`].
-    pub fn act(&mut self, n: u64, command: Command) -> Result<Answer, NoMemory>
-        ensures done { IfOk result (λ answer. script_done self.old n command ≡ (self.new, answer)) }
-        ensures unchanged { IfOk result (λ answer. changes_store command ≡ false → self.new ≡ self.old) }
+    pub fn act(&mut self, n: u64, command: Command<'_>) -> Result<Answer, NoMemory>
+        ensures done { IfOk result (λ answer. script_done self.old n command.entry ≡ (self.new, answer)) }
+        ensures unchanged { IfOk result (λ answer. changes_store command.entry ≡ false → self.new ≡ self.old) }
         ensures spent { OnOk result (self.new.spent ≡ self.old.spent) }
     {
         self.carry_out(n, command)

@@ -1,16 +1,12 @@
-ghost use Rattle.std.specs.Prelude.{◌≡◌, None, IfOk, OnOk, IfErr, IfSome, is_some, option_copied, option_map};
-ghost use Rattle.snap_script.specs.Lines.{line_of};
-ghost use Rattle.snap_script.specs.Requests.{id_of};
-ghost use Rattle.snap_script.specs.declared.response.Response.TheVariants.{NotKept};
-ghost use Rattle.snap_script.specs.declared.unknown.FieldRule.TheVariants.{KnownAndId};
-ghost use Rattle.snap_lines.specs.Transcripts.{Tells, next_line};
+ghost use Rattle.std.specs.Prelude.{◌≡◌, None, IfOk, OnOk, IfErr, IfSome};
+ghost use Rattle.snap_lines.specs.Transcripts.{Tells};
 ghost use Rattle.snap_session.specs.Service.{HasStoppedServing, idle, responded, served, service};
 
 use crate::stepper::Stepper;
 use snap_ledger::{NewTable, StoreName};
 use snap_lines::{Stop, TakeLine, read_lines};
-use snap_script::{Fault, Line, ReadError, Request, Response, Scratch, read_request};
-use snap_world::{NoMemory, World};
+use snap_script::{Fault, Line, ReadError, Response, Scratch, read_request};
+use snap_world::NoMemory;
 use std::alloc::Global;
 use std::io::{Read, Write};
 use std::marker::{Brand, Model};
@@ -35,12 +31,12 @@ impl<N: StoreName> Model for Server<N> {
 }
 
 // Carries out what was read of the line of this number.
-fn respond<N: StoreName>(
+pub(crate) fn respond<N: StoreName>(
     stepper: &mut Stepper<N>,
     number: u64,
-    line: Result<Line, Fault>,
+    line: Result<Line<'_>, Fault>,
 ) -> Result<Response, NoMemory>
-    ensures { IfOk result (λ response. responded stepper.old number line ≡ (stepper.new, response)) }
+    ensures { IfOk result (λ response. responded stepper.old number line.entry ≡ (stepper.new, response)) }
 {
     let line = match line {
         Ok(line) => line,
@@ -67,57 +63,6 @@ impl<N: StoreName> Server<N> {
             scratch: Scratch::new(alloc),
         }
     }
-
-    // Reads a line with its id.
-    pub(crate) fn read(&mut self, alloc: Global, line: &[u8]) -> Result<Request, NoMemory>
-        ensures id { IfOk result (λ request. request.id ≡ id_of line.now) }
-        ensures line { IfOk result (λ request. request.line ≡ line_of KnownAndId (is_some self.old.stepped.script.store) line.now) }
-        ensures same { self.new ≡ self.old }
-    {
-        let opened = self.stepper.is_open();
-        read_request(alloc, line, opened, &mut self.scratch)
-    }
-
-    // Carries out what was read of the next line.
-    pub(crate) fn respond(&mut self, line: Result<Line, Fault>) -> Result<Response, NoMemory>
-        ensures stepped { IfOk result (λ response. responded self.old.stepped (next_line self.old.lines) line ≡ (self.new.stepped, response)) }
-        ensures lines { OnOk result (self.new.lines ≡ next_line self.old.lines) }
-    {
-        self.lines = self.lines.saturating_add(1);
-        respond(&mut self.stepper, self.lines, line)
-    }
-
-    // Counts the next line, which isn't kept.
-    pub(crate) fn pass_over(&mut self) -> Response
-        ensures response { result ≡ NotKept }
-        ensures stepped { self.new.stepped ≡ self.old.stepped }
-        ensures lines { self.new.lines ≡ next_line self.old.lines }
-    {
-        self.lines = self.lines.saturating_add(1);
-        Response::NotKept
-    }
-
-    // Whether a store stands.
-    pub(crate) fn is_open(&self) -> bool
-        ensures { result ≡ is_some self.now.stepped.script.store }
-    {
-        self.stepper.is_open()
-    }
-
-    // The world of the store, where one stands.
-    pub(crate) fn world(&self) -> Option<&World<N>>
-        ensures { option_copied result ≡ option_map (λ opened. opened.world) self.now.stepped.script.store }
-    {
-        self.stepper.world()
-    }
-
-    // The next line is the first.
-    pub(crate) fn count_anew(&mut self)
-        ensures stepped { self.new.stepped ≡ self.old.stepped }
-        ensures lines { self.new.lines ≡ 0 }
-    {
-        self.lines = 0;
-    }
 }
 
 /// A line is read with its id and carried out. The text is the line of its response.
@@ -126,11 +71,13 @@ impl<N: StoreName> TakeLine for Server<N> {
 
     #[tactic(auto, unfolding(crate::specs::Service::served))]
     fn take_line(&mut self, alloc: Global, line: &[u8]) -> Result<Option<String>, ReadError> {
-        let request = match self.read(alloc, line) {
+        let opened = self.stepper.is_open();
+        let request = match read_request(alloc, line, opened, &mut self.scratch) {
             Ok(request) => request,
             Err(shortage) => return Err(ReadError::OutOfMemory(shortage)),
         };
-        let response = self.respond(request.line)?;
+        self.lines = self.lines.saturating_add(1);
+        let response = respond(&mut self.stepper, self.lines, request.line)?;
         Ok(Some(response.line(alloc, &request.id)?))
     }
 }

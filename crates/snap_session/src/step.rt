@@ -1,6 +1,6 @@
 // One step of the world, and what a script says of it.
 ghost use Rattle.std.specs.Prelude.{◌≡◌, IfOk, false};
-ghost use Rattle.snap_world.specs.declared.step.Step.TheVariants.{Hand, Locked};
+ghost use Rattle.snap_world.specs.declared.step.Step.TheVariants.{Locked};
 ghost use Rattle.snap_world.specs.Move.{move};
 ghost use Rattle.snap_world.specs.Quota.{layer_count_at};
 ghost use Rattle.snap_session.specs.Opened.{share_at};
@@ -11,7 +11,6 @@ use snap_call::{Call, Refusal, Reply};
 use snap_ledger::StoreName;
 use snap_merge::FsError;
 use snap_script::Answer;
-use snap_upper::Op;
 use snap_usage::Usage;
 use snap_world::{Answer as StepAnswer, NoMemory, World};
 
@@ -56,18 +55,6 @@ pub(crate) fn call<N: StoreName>(
     ensures opening { world.new.opening ≡ world.old.opening }
 {
     unless_want(world.call(session, call))
-}
-
-// An operation on the layer of the snapshot in the slot.
-pub(crate) fn operate<N: StoreName>(
-    world: &mut World<N>,
-    slot: u64,
-    op: &Op,
-) -> Result<StepAnswer, NoMemory>
-    ensures done { IfOk result (λ answer. move world.old (Hand slot op.now) ≡ (world.new, answer)) }
-    ensures opening { world.new.opening ≡ world.old.opening }
-{
-    unless_want(world.operate(slot, op))
 }
 
 // What a script says of the answer of a step on the slot.

@@ -1,4 +1,5 @@
-ghost use Rattle.std.specs.Prelude.{◌≡◌, IfOk, Some, is_some, option_copied, option_map};
+ghost use Rattle.std.specs.Prelude.{◌≡◌, IfOk, IfSome, Some, is_some, option_copied, option_map};
+ghost use Rattle.snap_session.specs.Opened.{only_store};
 ghost use Rattle.snap_session.specs.Script.{line_step, paged, unstepped};
 
 use crate::pages::Pages;
@@ -53,6 +54,13 @@ impl<N: StoreName> Stepper<N> {
         self.script.world()
     }
 
+    // The world, where a store stands and nothing else is kept of stores.
+    pub(crate) fn only_world(&self) -> Option<&World<N>>
+        ensures { IfSome result (λ world. self.now.script ≡ only_store (record { world = world.now })) }
+    {
+        self.script.only_world()
+    }
+
     // A page of the lines of the saved store.
     fn save(&mut self, after: u64, most: u64) -> Result<Answer, NoMemory>
         ensures { IfOk result (λ answer. paged self.old after most ≡ (self.new, Some answer)) }
@@ -70,8 +78,8 @@ impl<N: StoreName> Stepper<N> {
     /// page takes memory for its lines, and the first for what is saved ([`World::save`](snap_world::World::save)); cost
     /// and memory grow with them. Of any other command as [`Script::act`]. After `NoMemory` nothing is said of the store,
     /// nor of what was saved.
-    pub fn step(&mut self, line: Line) -> Result<Option<Answer>, NoMemory>
-        ensures { IfOk result (λ answer. line_step self.old line ≡ (self.new, answer)) }
+    pub fn step(&mut self, line: Line<'_>) -> Result<Option<Answer>, NoMemory>
+        ensures { IfOk result (λ answer. line_step self.old line.entry ≡ (self.new, answer)) }
     {
         match line {
             Line::Empty => Ok(None),

@@ -4,7 +4,7 @@ ghost use Rattle.snap_session.specs.Tree.{tree_node, forest, tree};
 
 use snap_call::{Records, Refusal};
 use snap_ledger::StoreName;
-use snap_record::{Record, Sequence, Text};
+use snap_record::{Record, Sequence};
 use snap_script::{Answer, TreeNode};
 use snap_world::{NoMemory, World};
 use std::alloc::{AllocError, Global};
@@ -37,11 +37,11 @@ fn forest(alloc: Global, records: &Records, place: usize) -> Result<Sequence<Tre
 pub(crate) fn tree<N: StoreName>(
     alloc: Global,
     world: &World<N>,
-    namespace: Text,
+    namespace: &str,
 ) -> Result<Answer, NoMemory>
-    ensures { IfOk result (λ answer. answer ≡ tree world.now.state namespace) }
+    ensures { IfOk result (λ answer. answer ≡ tree world.now.state namespace.now) }
 {
-    let Some(place) = world.state().place_of(namespace.as_str()) else {
+    let Some(place) = world.state().place_of(namespace) else {
         return Ok(Answer::refused(Refusal::NoNamespace));
     };
     Ok(Answer::Tree(forest(alloc, world.records(), place)?))

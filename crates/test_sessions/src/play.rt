@@ -13,7 +13,7 @@ use std::sync::Wait;
 
 impl<'a, N: RoundName, R: Wait> Round<'a, N, R> {
     // What a command on a snapshot or a session is answered.
-    fn do_command(&mut self, n: u64, command: &Command) -> Result<Answer, Refused> {
+    fn do_command(&mut self, n: u64, command: &Command<'_>) -> Result<Answer, Refused> {
         match command {
             Command::Session => Ok(Answer::Session(self.open_session()?)),
             Command::Call(call) => Ok(Answer::Reply(self.reply(n, call)?)),
@@ -67,7 +67,7 @@ impl<'a, N: RoundName, R: Wait> Round<'a, N, R> {
 
     // What a command is answered: nothing where the round ends for the next one, nor where it asks for what a store
     // doesn't lend, nor on a snapshot that the script doesn't hold. No round ends as long as a snapshot is open.
-    fn answer(&mut self, n: u64, command: &Command) -> Result<Option<Answer>, Stop> {
+    fn answer(&mut self, n: u64, command: &Command<'_>) -> Result<Option<Answer>, Stop> {
         let refused = match command {
             Command::Reopen { journal } => {
                 if !self.hands.is_empty() {

@@ -5,7 +5,7 @@ use crate::lines::{write_answer, write_line};
 use crate::stop::Stop;
 use snap_ledger::{NewTable, StoreName};
 use snap_record::Text;
-use snap_script::{Answer, Command, FieldRule, Line, Scratch, read_line};
+use snap_script::{Answer, Command, FieldRule, LentText, Line, Scratch, read_line};
 use snap_session::Script;
 use std::alloc::Global;
 use std::io::Write;
@@ -17,9 +17,8 @@ fn ask<N: StoreName>(script: &mut Script<N>, name: Option<&Text>) -> Result<Answ
     for _ in 0..2 {
         let command = match name {
             None => Command::Report,
-            Some(name) => match name.clone() {
-                Ok(namespace) => Command::Tree { namespace },
-                Err(_) => continue,
+            Some(name) => Command::Tree {
+                namespace: LentText::new(name.as_str()),
             },
         };
         if let Ok(answer) = script.act(0, command) {

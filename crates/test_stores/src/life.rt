@@ -5,7 +5,7 @@ use snap_book::{Active, Book, Held, Sealed};
 use snap_call::Refusal;
 use snap_ledger::StoreName;
 use snap_merge::FsError;
-use snap_record::Labels;
+use snap_record::{Labels, Text};
 use snap_upper::Op;
 use snap_usage::Usage;
 use std::test::Fail;
@@ -33,10 +33,10 @@ fn do_charged<N: StoreName>(
 fn commit_or_discard<N: StoreName>(
     book: &mut Book<N>,
     session: u64,
-    name: &str,
+    name: Text,
     sealed: Sealed<N>,
 ) -> Result<Usage, Refusal> {
-    match book.commit(session, name, &None, &None, sealed) {
+    match book.commit(session, name, None, None, sealed) {
         Ok(usage) => Ok(usage),
         Err((why, sealed)) => {
             book.discard(session, Held::Sealed(sealed));
@@ -45,11 +45,12 @@ fn commit_or_discard<N: StoreName>(
     }
 }
 
-/// A layer of an image is unpacked: an active snapshot over its parent is filled, sealed and committed.
+/// A layer of an image is unpacked: an active snapshot over its parent is filled, sealed and committed under the name.
 /// From then on it never changes, and its namespace is charged exactly its blocks and inodes.
 fn unpack_layer<N: StoreName>(
     book: &mut Book<N>,
     session: u64,
+    name: Text,
     parent: &str,
     labels: &Labels,
     files: &[Op],
@@ -62,7 +63,7 @@ fn unpack_layer<N: StoreName>(
         }
     }
     match active.seal() {
-        Ok(sealed) => Ok(commit_or_discard(book, session, "layer", sealed)?),
+        Ok(sealed) => Ok(commit_or_discard(book, session, name, sealed)?),
         Err((no_memory, active)) => {
             book.discard(session, Held::Active(active));
             Err(Refusal::OutOfMemory(no_memory).into())

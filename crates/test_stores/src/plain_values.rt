@@ -48,7 +48,7 @@ fn placed<R: Abort>(rt: &R, alloc: Global) -> Records {
         inodes: 1,
     };
     let mut records = Records::new(alloc);
-    let added = records.insert(Record {
+    let record = Record {
         namespace: 0,
         key: text(rt, alloc, "k"),
         parent: Text::new(alloc),
@@ -60,8 +60,10 @@ fn placed<R: Abort>(rt: &R, alloc: Global) -> Records {
             slot: 5,
             charged: one,
         },
-    });
-    added.expect(rt, "memory for a record");
+    };
+    let held = records.hold(record).expect(rt, "memory for a record");
+    let added = records.insert(held);
+    added.expect(rt, "memory for its place");
     let (there, other) = (records.has_key(0, "k"), records.has_key(1, "k"));
     prove!(there && !other);
     let (open, free) = (records.is_open(5), records.is_open(0));

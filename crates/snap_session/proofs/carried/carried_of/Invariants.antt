@@ -1,7 +1,6 @@
-use Rattle.std.proofs.Common.{◌≡◌, map, take}
-use Rattle.std.specs.Prelude.{filter_map}
-use Rattle.snap_session.specs.Carried.{carried_from}
+use Rattle.std.proofs.Common.{◌≡◌}
+use Rattle.snap_session.specs.Carried.{carried_below}
 use Rattle.snap_session.proofs.carried.carried_of.Given as goal
 
-abbrev pub invariant-loop-record : goal.invariant-loop-record
-invariant-loop-record l = l.found ≡ filter_map (carried_from l.namespaces) (map (λ r. r.now) (take l.record-index l.record-items))
+abbrev pub invariant-loop-slot : goal.invariant-loop-slot
+invariant-loop-slot l = l.found ≡ carried_below l.slot l.state.namespaces l.state.records
