@@ -49,7 +49,7 @@ a_feed held b is some = by (is_nothing held) (sym is ∙ some)
     by false h = refl
 
 -- nothing, or a line feed
-feed_or_none : (held last : List ℕ) → last ≡ feed_behind held → (last ≡ []) ⊎ (last ≡ 10 ∷ [])
+pub feed_or_none : (held last : List ℕ) → last ≡ feed_behind held → (last ≡ []) ⊎ (last ≡ 10 ∷ [])
 feed_or_none held last is = by (is_nothing held) is
   where
     by : (x : Bool) → last ≡ feed_if x → (last ≡ []) ⊎ (last ≡ 10 ∷ [])

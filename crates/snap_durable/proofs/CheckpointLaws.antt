@@ -1,6 +1,6 @@
 -- The text of a checkpoint gives the store back that a roll leaves, and its mark agrees.
-use Rattle.std.proofs.Common.{◌≡◌, ◌⊎◌, inl, inr, ℕ, ◌≤◌, List, [], ◌∷◌, ◌++◌, length, map, Bool, true, false, Option, None, Some, Result, Ok, Err, refl, sym, ap, ◌∙◌, subst, arith, append_assoc}
-use Rattle.std.specs.Prelude.{◌||◌, not, IfOk}
+use Rattle.std.proofs.Common.{◌≡◌, ◌⊎◌, inl, inr, ℕ, ◌≤◌, List, [], ◌∷◌, ◌++◌, length, map, Bool, true, false, Option, None, Some, Result, Ok, Err, refl, sym, ap, ◌∙◌, subst, arith, append_assoc, append-nil}
+use Rattle.std.specs.Prelude.{◌||◌, if◌then◌else◌, not, IfOk}
 use Rattle.std.specs.List.{AllByRecursion}
 use Rattle.std.specs.Option.{option_map_or}
 use Rattle.serde_json.specs.Written.{compact_text}
@@ -22,14 +22,18 @@ use Rattle.snap_script.specs.declared.answer.Answer.{Answer}
 use Rattle.snap_script.specs.declared.command.Command.TheVariants.{Restore}
 use Rattle.snap_script.specs.declared.fault.Fault.{Fault}
 use Rattle.snap_script.specs.declared.line.Line.{Line as ScriptLine}
-use Rattle.snap_script.specs.declared.line.Line.TheVariants.{Command}
+use Rattle.snap_script.specs.declared.line.Line.TheVariants.{Command, Empty}
+use Rattle.snap_script.specs.declared.unknown.FieldRule.TheVariants.{KnownAndId}
+use Rattle.snap_script.specs.Lines.{line_of}
 use Rattle.snap_lines.specs.Effects.{Effect}
 use Rattle.snap_lines.specs.Lines.{lines_of}
 use Rattle.snap_lines.proofs.LineLaws.{line_split}
-use Rattle.snap_marks.specs.Marks.{chained_lines, tail}
+use Rattle.snap_marks.specs.Marks.{chained_lines, is_continued_line, is_mark_line, tail}
+use Rattle.snap_marks.proofs.MarkLaws.{unmarked_goes_not}
 use Rattle.snap_marks.specs.Sums.{mark_behind, marks_agree, no_sum, no_sums}
 use Rattle.snap_session.specs.Kept.{KeptPart, KeptValue, has_store, idle_kept, is_changing, kept_line, kept_part, kept_so, mark_of, served_kept, would_change}
-use Rattle.snap_session.specs.Opened.{OpenedValue, ScriptValue}
+use Rattle.snap_session.specs.Opened.{OpenedValue, ScriptValue, only_store, unopened}
+use Rattle.snap_session.specs.Resumed.{resumed_kept}
 use Rattle.snap_session.specs.Commands.{roll}
 use Rattle.snap_session.specs.Saving.{MakesRolled, SavesRolled, saved_by, saving_of}
 use Rattle.snap_session.specs.declared.saving.Saving.TheVariants as savings
@@ -39,13 +43,14 @@ use Rattle.sqlite_disk.specs.declared.Disk.{Ghosts}
 use Rattle.snap_pair.specs.Pair.{ArePairHonest, PairKeeps}
 use Rattle.snap_pair.specs.declared.pair.Pair.{Pair}
 use Rattle.snap_durable.specs.declared.shorten.Uncheckpointed.{Uncheckpointed}
-use Rattle.snap_durable.specs.Checkpoints.{AreHonestLeft, IsCheckpoint, IsTold, checkpoint_text, mark_text, rolled, saved_line, saved_text, script_with}
+use Rattle.snap_durable.specs.Checkpoints.{AreHonestLeft, IsCheckpoint, IsTold, checkpoint_text, mark_text, rolled, saved_line, saved_text}
 use Rattle.snap_durable.specs.Parts.{line_read, whole_in}
 use Rattle.snap_durable.specs.Served.{IsReplayed, text_limit}
+use Rattle.snap_durable.proofs.BackLaws.{ArePlain, Gives, IsMade, given_back, plain_both, plain_leads, stem_plain}
 use Rattle.snap_durable.proofs.LeadLaws.{Leads, leads_of, leads_split}
-use Rattle.snap_durable.proofs.LoggedLaws.{IsSound, idle_sound, keeps_part, mark_read, sounds, text_left}
+use Rattle.snap_durable.proofs.SoundLaws.{IsSound, idle_sound, keeps_part, mark_read, sounds, text_left}
 use Rattle.snap_durable.proofs.RestartLaws.{Adds, joined}
-use Rattle.snap_durable.proofs.SavedLaws.{are_between, lines_saved, mark_open, open_text}
+use Rattle.snap_durable.proofs.SavedLaws.{are_between, are_saved, lines_saved, mark_open, open_text}
 use Rattle.snap_durable.proofs.WholeLaws.{whole_text}
 
 -- the bytes of a line, without its line feed
@@ -67,6 +72,21 @@ behind_ends n (p ∷ ps) = behind_ends (one_more n) ps
 
 pub store_ends : (w : SavedWorldValue) → ends_once (store_lines w) ≡ true
 store_ends w = behind_ends (one_more 0) (store_pieces w)
+
+-- ---- sums go on from none of them
+
+mark_plain : (text : List ℕ) → is_continued_line (line_read (mark_text text)) ≡ false
+mark_plain text = stem_plain (chained_lines no_sum text) no_sum tail refl
+
+saved_plain : (ls : List Line) → AllByRecursion IsTold ls → ArePlain (map saved_line ls)
+saved_plain [] told = tt
+saved_plain (line ∷ ls) told = (ap is_continued_line (mark_read (bytes_of line) (open_text line) (omega (arith, told.0.fits))) ∙ unmarked_goes_not (bytes_of line) (unmarked (is_mark_line (bytes_of line)) refl), saved_plain ls told.1)
+  where
+    unmarked : (t : Bool) → is_mark_line (bytes_of line) ≡ t → is_mark_line (bytes_of line) ≡ false
+    unmarked false is = is
+    unmarked true is =
+        let bad : Ok Empty ≡ Ok (Command 0 (Restore (Ok line))) = ap (λ (t : Bool). if t then Ok Empty else line_of KnownAndId false (bytes_of line)) (sym is) ∙ told.0.read unopened refl in
+        absurd (cc)
 
 -- what is gathered with a line, or the saved store
 abbrev Put : Type 0
@@ -152,7 +172,7 @@ module _ (saved : SavedWorldValue) (o : OpenedValue) (a : Answer) (begun : begun
 
   -- where lines have led that restore a store
   record IsStored (v w : KeptValue) (ls : List Line) : Type 0 where
-    script : script_of w ≡ script_with o
+    script : script_of w ≡ only_store o
     keeps : kept_so true w ≡ w
     adds : Adds served_kept would_change mark_of kept_so has_store kept_part keeps_part v (map bytes_of ls) w
 
@@ -198,7 +218,7 @@ module _ (saved : SavedWorldValue) (o : OpenedValue) (a : Answer) (begun : begun
           let last = ends_all g h found line rest r_is ends in
           let end : e.value ≡ w = subst (λ (ls : List Line). Leads served_kept e.value (map saved_line ls) w) last.0 more in
           let opened : begun_again found ≡ Ok (o, a) = ap begun_again same ∙ begun in
-          let stands : script_of e.value ≡ script_with o =
+          let stands : script_of e.value ≡ only_store o =
           script ∙ ap (λ (r : Put). (line_taken (unstored g) r).0) r_is ∙ ap (λ (r : Result (OpenedValue × Answer) RestoreFault). (store_restored (unstored h) r).0) opened ∙ ap stored_with last.1 in
           record {
             script = ap script_of (sym end) ∙ stands;
@@ -232,7 +252,7 @@ module _ (saved : SavedWorldValue) (o : OpenedValue) (a : Answer) (begun : begun
 
   -- the lines behind it, and the mark that ends them
   ends_by : (ls : List Line) (idle u again : KeptValue) → idle ≡ idle_kept → HasBegun u → AllByRecursion IsTold ls → ends_once ls ≡ true → lines_put None ls ≡ Ok saved → Leads served_kept u (map saved_line ls ++ (mark_text (saved_text ls) ∷ [])) again
-      → (script_of again ≡ script_with o) × (marks_agree again.sums ≡ true)
+      → IsMade (only_store o) again
   ends_by ls idle u again idles begun_u told ends put all =
       let cut = leads_split served_kept (map saved_line ls) (mark_text (saved_text ls) ∷ []) u again all in
       let x : KeptValue = cut.0 in
@@ -243,25 +263,42 @@ module _ (saved : SavedWorldValue) (o : OpenedValue) (a : Answer) (begun : begun
       ap (λ (v : KeptValue). served_kept x (line_read (mark_of v (joined served_kept would_change mark_of kept_so has_store kept_part keeps_part (map bytes_of ls)) ++ 10 ∷ []))) idles
       ∙ ap (λ (t : List ℕ). served_kept x (line_read (mark_text t))) (joined_saved ls) ∙ last.1 in
       let sound : IsSound last.0.value = sounds idle u x (map bytes_of ls) last.0 part begun_u.also begun_u.sound is.adds mark in
-      (ap script_of (sym last.2) ∙ ap (λ (k : KeptPart). k.script) (mark_left x (saved_text ls) last.0 last.1) ∙ is.script, subst (λ (z : KeptValue). marks_agree z.sums ≡ true) last.2 sound.whole)
+      record {
+        script = ap script_of (sym last.2) ∙ ap (λ (k : KeptPart). k.script) (mark_left x (saved_text ls) last.0 last.1) ∙ is.script;
+        sound = subst IsSound last.2 sound;
+        also = subst (λ (z : KeptValue). kept_so true z ≡ z) last.2 (so_after true x (line_read (mark_text (saved_text ls))) last.0 (ap (λ y. served_kept y (line_read (mark_text (saved_text ls)))) is.keeps ∙ last.1));
+      }
 
   -- the text gives the store back, and its marks agree
   gives_from : (none : List ℕ) → none ≡ [] → (ls : List Line) (idle again : KeptValue) → idle ≡ idle_kept → AllByRecursion IsTold ls → ends_once ls ≡ true → lines_put None ls ≡ Ok saved
-      → length (mark_text none ++ (saved_text ls ++ mark_text (saved_text ls))) ≤ text_limit → IsReplayed served_kept idle (mark_text none ++ (saved_text ls ++ mark_text (saved_text ls))) again → (script_of again ≡ script_with o) × (marks_agree again.sums ≡ true)
-  gives_from none none_is ls idle again idles told ends put low now =
+      → Leads resumed_kept idle (lines_of (mark_text none ++ (saved_text ls ++ mark_text (saved_text ls)))) again → IsMade (only_store o) again
+  gives_from none none_is ls idle again idles told ends put now =
       let text : List ℕ = saved_text ls in
       let more : List ℕ = text ++ mark_text text in
-      let whole : whole_in text_limit (mark_text none ++ more) ≡ mark_text none ++ more = whole_text text_limit (mark_text none ++ more) (are_between none ls) low in
       let split : lines_of (mark_text none ++ more) ≡ mark_text none ∷ (map saved_line ls ++ (mark_text text ∷ [])) =
       ap lines_of (append_assoc (mark_behind no_sums none) (10 ∷ []) more) ∙ line_split (mark_behind no_sums none) more (mark_open none)
       ∙ ap (λ (t : List (List ℕ)). mark_text none ∷ t) (lines_saved ls (mark_text text) ∙ ap (λ (t : List (List ℕ)). map saved_line ls ++ t) (line_split (mark_behind no_sums text) [] (mark_open text))) in
       let all : Leads served_kept idle (mark_text none ∷ (map saved_line ls ++ (mark_text text ∷ []))) again =
-      subst (λ (t : List (List ℕ)). Leads served_kept idle t again) (ap lines_of whole ∙ split) (leads_of served_kept idle (lines_of (whole_in text_limit (mark_text none ++ more))) now.answers again now.serves) in
+      plain_leads (mark_text none ∷ (map saved_line ls ++ (mark_text text ∷ []))) idle again (mark_plain none, plain_both (map saved_line ls) (mark_text text ∷ []) (saved_plain ls told) (mark_plain text, tt))
+      (subst (λ (t : List (List ℕ)). Leads resumed_kept idle t again) split now) in
       ends_by ls idle all.0.value again idles (begun_by none none_is idle idles all.0 all.1) told ends put all.2
 
-  pub gives : (ls : List Line) (again : KeptValue) → AllByRecursion IsTold ls → ends_once ls ≡ true → lines_put None ls ≡ Ok saved → length (checkpoint_text ls) ≤ text_limit
-      → IsReplayed served_kept idle_kept (checkpoint_text ls) again → (script_of again ≡ script_with o) × (marks_agree again.sums ≡ true)
-  gives ls again told ends put low now = gives_from [] refl ls idle_kept again refl told ends put low now
+  -- and so do the lines alone
+  made_from : (ls : List Line) (idle again : KeptValue) → idle ≡ idle_kept → AllByRecursion IsTold ls → ends_once ls ≡ true → lines_put None ls ≡ Ok saved → length (saved_text ls) ≤ text_limit → IsReplayed served_kept idle (saved_text ls) again → script_of again ≡ only_store o
+  made_from ls idle again idles told ends put low now =
+      let text : List ℕ = saved_text ls in
+      let also : kept_so true idle ≡ idle = ap (kept_so true) idles ∙ sym idles in
+      let whole : whole_in text_limit text ≡ text = whole_text text_limit text (are_saved ls) low in
+      let split : lines_of text ≡ map saved_line ls = ap lines_of (sym (append-nil text)) ∙ lines_saved ls [] ∙ append-nil (map saved_line ls) in
+      let all : Leads served_kept idle (map saved_line ls) again =
+      subst (λ (t : List (List ℕ)). Leads served_kept idle t again) (ap lines_of whole ∙ split) (leads_of served_kept idle (lines_of (whole_in text_limit text)) now.answers again now.serves) in
+      (leads_stored ls None idle again (ap script_of idles) also told ends put all).script
+
+  pub made : (ls : List Line) (again : KeptValue) → AllByRecursion IsTold ls → ends_once ls ≡ true → lines_put None ls ≡ Ok saved → length (saved_text ls) ≤ text_limit → IsReplayed served_kept idle_kept (saved_text ls) again → script_of again ≡ only_store o
+  made ls again told ends put low now = made_from ls idle_kept again refl told ends put low now
+
+  pub gives : (ls : List Line) → AllByRecursion IsTold ls → ends_once ls ≡ true → lines_put None ls ≡ Ok saved → Gives (checkpoint_text ls) (IsMade (only_store o))
+  gives ls told ends put = record { lines = are_between [] ls; back = λ low z all. gives_from [] refl ls idle_kept z refl told ends put all }
 
 -- ---- a checkpoint
 
@@ -272,8 +309,12 @@ saved_ends w (Ok done) ls is = subst (λ (l : List Line). ends_once l ≡ true) 
     lines_are w ls e = cc
 saved_ends w (Err why) ls is = absurd (cc)
 
+-- what is saved of a store gives it back as a roll leaves it
+pub gives_checkpoint : (s : OpenedValue) (ls : List Line) → MakesRolled s ls → saving_of (Some s) ≡ savings.Lines ls → AllByRecursion IsTold ls → Gives (checkpoint_text ls) (IsMade (only_store (rolled s)))
+gives_checkpoint s ls made of told = gives (saved_world s.world) (rolled s) (roll s.world s.world.limit).1 made.1 ls told (saved_ends s.world (roll_answer s.world.state s.world.limit) ls of) made.0
+
 -- what is saved of the store that was carried out
-pub is_checkpoint : (text text_new : List ℕ) (v : KeptValue) (ls : List Line) → IsReplayed served_kept idle_kept text v → marks_agree v.sums ≡ true → saving_of v.server.stepped.script.store ≡ savings.Lines ls
+pub is_checkpoint : (text text_new : List ℕ) (v : KeptValue) (ls : List Line) → IsReplayed resumed_kept idle_kept text v → marks_agree v.sums ≡ true → saving_of v.server.stepped.script.store ≡ savings.Lines ls
     → SavesRolled v.server.stepped.script.store (savings.Lines ls) → AllByRecursion IsTold ls → text_new ≡ checkpoint_text ls → IsCheckpoint text text_new
 is_checkpoint text text_new v ls replayed agrees saved makes told is = record {
   begun = v;
@@ -286,12 +327,13 @@ is_checkpoint text text_new v ls replayed agrees saved makes told is = record {
   agrees_again = λ s stands low again now. (both s stands low again now).1;
 }
   where
-    both : (s : OpenedValue) → v.server.stepped.script.store ≡ Some s → length text_new ≤ text_limit → (again : KeptValue) → IsReplayed served_kept idle_kept text_new again → (script_of again ≡ script_with (rolled s)) × (marks_agree again.sums ≡ true)
+    both : (s : OpenedValue) → v.server.stepped.script.store ≡ Some s → length text_new ≤ text_limit → (again : KeptValue) → IsReplayed resumed_kept idle_kept text_new again → (script_of again ≡ only_store (rolled s)) × (marks_agree again.sums ≡ true)
     both s stands low again now =
         let of : saving_of (Some s) ≡ savings.Lines ls = ap saving_of (sym stands) ∙ saved in
         let made : MakesRolled s ls = subst (λ (o : Option OpenedValue). SavesRolled o (savings.Lines ls)) stands makes in
-        gives (saved_world s.world) (rolled s) (roll s.world s.world.limit).1 made.1 ls again told (saved_ends s.world (roll_answer s.world.state s.world.limit) ls of) made.0
-        (subst (λ (t : List ℕ). length t ≤ text_limit) is low) (subst (λ (t : List ℕ). IsReplayed served_kept idle_kept t again) is now)
+        let it : IsMade (only_store (rolled s)) again =
+        given_back (checkpoint_text ls) (IsMade (only_store (rolled s))) (gives_checkpoint s ls made of told) (subst (λ (t : List ℕ). length t ≤ text_limit) is low) again (subst (λ (t : List ℕ). IsReplayed resumed_kept idle_kept t again) is now) in
+        (it.script, it.sound.whole)
 
 -- the same of two files, where it was written
 pub made_of : {D : Type 0} {g : Ghosts D} (r : Result (Pair D g) (Uncheckpointed D g)) (text : List ℕ) (ls : List Line) → IfOk r (λ p. ArePairHonest p → AllByRecursion IsTold ls × PairKeeps p (checkpoint_text ls))

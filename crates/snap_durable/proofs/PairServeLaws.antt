@@ -1,5 +1,5 @@
 -- What was served over the log of a pair that counts was served over the pair.
-use Rattle.std.proofs.Common.{◌≡◌, inl, inr, ℕ, ◌<◌, ◌≤◌, Bool, true, false, List, [], ◌∷◌, ◌++◌, length, Option, None, Some, Result, Ok, Err, refl, sym, ap, ◌∙◌, subst, arith, length-append}
+use Rattle.std.proofs.Common.{◌≡◌, inl, inr, ℕ, ◌<◌, Bool, true, false, List, [], ◌∷◌, ◌++◌, length, Option, None, Some, Result, Ok, Err, refl, sym, ap, ◌∙◌, subst, arith, length-append}
 use Rattle.std.specs.Prelude.{IfErr, IfOk, IfSome, IsTrue, if◌then◌else◌}
 use Rattle.sqlite_disk.specs.declared.Disk.{Ghosts}
 use Rattle.snap_log.specs.Log.{IsHonest, disk_of, text_in}

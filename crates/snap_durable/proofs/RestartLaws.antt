@@ -1,18 +1,13 @@
 -- A log gives back what it was kept of.
-use Rattle.std.proofs.Common.{◌≡◌, ◌⊎◌, inl, inr, ℕ, ◌≤◌, List, [], ◌∷◌, ◌++◌, length, Bool, true, false, Ok, refl, sym, ap, ◌∙◌, subst, arith, append_assoc, length-append}
+use Rattle.std.proofs.Common.{◌≡◌, ◌⊎◌, inl, inr, ℕ, ◌≤◌, List, [], ◌∷◌, ◌++◌, length, Bool, true, false, Ok, refl, sym, ap, ◌∙◌, subst, arith, append_assoc}
 use Rattle.std.specs.Prelude.{if◌then◌else◌}
 use Rattle.snap_lines.specs.Effects.{Effect, Effects}
 use Rattle.snap_lines.specs.Lines.{is_open, lines_of}
 use Rattle.snap_lines.proofs.LineLaws.{line_split}
-use Rattle.snap_log.specs.Batches.{none_yet}
-use Rattle.snap_log.specs.Texts.{AreLines}
 use Rattle.snap_durable.specs.Laws.{KeepsPart}
-use Rattle.snap_durable.specs.Parts.{AreTold, IsTimely, Part, lines_added, lines_to_keep, line_read, whole_in, with_mark}
-use Rattle.snap_durable.specs.Served.{IsReplayed, text_limit}
+use Rattle.snap_durable.specs.Parts.{AreTold, IsTimely, Part, lines_added, lines_to_keep, line_read, with_mark}
 use Rattle.snap_durable.specs.Serves.{Serves}
-use Rattle.snap_durable.proofs.LeadLaws.{Leads, kept_are, kept_lines, leads_of, leads_one, leads_split, read_again, read_open}
-use Rattle.snap_durable.proofs.BatchLaws.{IsWhole, lines_join, stays}
-use Rattle.snap_durable.proofs.WholeLaws.{whole_text}
+use Rattle.snap_durable.proofs.LeadLaws.{Leads, kept_are, kept_lines, leads_of, leads_split, read_again, read_open}
 
 module _ {A P : Type 0} (effect : Effects A) (changes : A → List ℕ → Bool) (mark : A → List ℕ → List ℕ) (keeping : Bool → A → A) (settled : A → Bool) (part : A → P) (laws : KeepsPart effect changes mark keeping settled part) where
   -- lines that change something are carried out, or refused
@@ -118,49 +113,9 @@ module _ {A P : Type 0} (effect : Effects A) (changes : A → List ℕ → Bool)
           let here : part x ≡ part u = refused_leads lines (keeping false v) x (laws.again false v) led ∙ laws.same false v ∙ same in
           later x rest more w u z told also here (subst (λ (l : List ℕ). Leads effect u (lines_of l) z) kept_text leads)
 
-  -- nothing, or one line that changes nothing
-  abbrev pub Begins : List ℕ → Type 0
-  Begins start = (start ≡ []) ⊎ ((m : List ℕ) × (start ≡ m ++ 10 ∷ []) × (is_open m ≡ true) × ((u : A) → changes u (line_read (m ++ 10 ∷ [])) ≡ false))
-
   -- what these make of a value
   abbrev pub Passes : List ℕ → A → A → Type 0
   Passes start u x = ((start ≡ []) × (u ≡ x)) ⊎ ((m : List ℕ) × (e : Effect A) × (start ≡ m ++ 10 ∷ []) × (effect u (line_read (m ++ 10 ∷ [])) ≡ Ok e) × (e.value ≡ x))
-
-  -- what leads from a log that was replayed over further lines
-  record GoesOn (start kept : List ℕ) (u z : A) : Type 0 where
-    value : A
-    same : part value ≡ part u
-    also : Is true value
-    leads : Leads effect value (lines_of kept) z
-    passed : Passes start u value
-
-  passes : (start kept : List ℕ) (u z : A) → Begins start → Is true u → Leads effect u (lines_of (start ++ kept)) z → GoesOn start kept u z
-  passes start kept u z (inl none) also leads = record { value = u; same = refl; also = also; leads = subst (λ (l : List ℕ). Leads effect u (lines_of (l ++ kept)) z) none leads; passed = inl (none, refl) }
-  passes start kept u z (inr (m, is, one, none)) also leads =
-      let split : lines_of (start ++ kept) ≡ (m ++ 10 ∷ []) ∷ lines_of kept = ap (λ (l : List ℕ). lines_of (l ++ kept)) is ∙ ap lines_of (append_assoc m (10 ∷ []) kept) ∙ line_split m kept one in
-      let behind = first_leads (m ++ 10 ∷ []) (lines_of kept) u z (none u) also (subst (λ (ls : List (List ℕ)). Leads effect u ls z) split leads) in
-      record { value = behind.0.value; same = behind.2; also = behind.3; leads = behind.4; passed = inr (m, behind.0, is, behind.1, refl) }
-
-  -- a log that was replayed, with further lines
-  goes_on : (first start kept : List ℕ) (idle begun z : A) → Is true idle → IsReplayed effect idle first begun → Begins start → AreLines first → AreLines ((first ++ start) ++ kept) → length ((first ++ start) ++ kept) ≤ text_limit
-      → IsReplayed effect idle ((first ++ start) ++ kept) z → GoesOn start kept begun z
-  goes_on first start kept idle begun z idles was begins lines all low now =
-      let first_low : length first ≤ text_limit = omega (arith, low, length-append first start, length-append (first ++ start) kept) in
-      let first_is : whole_in text_limit first ≡ first = whole_text text_limit first lines first_low in
-      let all_is : whole_in text_limit ((first ++ start) ++ kept) ≡ first ++ (start ++ kept) = whole_text text_limit ((first ++ start) ++ kept) all low ∙ append_assoc first start kept in
-      let led : Leads effect idle (lines_of first) begun = subst (λ (l : List ℕ). Leads effect idle (lines_of l) begun) first_is (leads_of effect idle (lines_of (whole_in text_limit first)) was.answers begun was.serves) in
-      let whole : IsWhole first = subst IsWhole first_is (stays (none_yet text_limit) first (inl refl)) in
-      let both : Leads effect idle (lines_of first ++ lines_of (start ++ kept)) z = subst (λ (ls : List (List ℕ)). Leads effect idle ls z) (ap lines_of all_is ∙ lines_join first (start ++ kept) whole) (leads_of effect idle (lines_of (whole_in text_limit ((first ++ start) ++ kept))) now.answers z now.serves) in
-      let cut = leads_split effect (lines_of first) (lines_of (start ++ kept)) idle z both in
-      let here : cut.0 ≡ begun = leads_one effect (lines_of first) idle cut.0 begun cut.1 led in
-      passes start kept begun z begins (subst (Is true) here (leads_stay true (lines_of first) idle cut.0 idles cut.1)) (subst (λ (x : A). Leads effect x (lines_of (start ++ kept)) z) here cut.2)
-
-  -- a log that was replayed and then kept lines of an input gives back what these led to
-  pub gives_back : (first start text kept : List ℕ) (parts : List Part) (idle begun v w z : A) → Is true idle → IsReplayed effect idle first begun → Begins start → part v ≡ part begun → AreTold effect changes mark keeping settled v parts text kept w
-      → AreLines first → AreLines ((first ++ start) ++ kept) → length ((first ++ start) ++ kept) ≤ text_limit → IsReplayed effect idle ((first ++ start) ++ kept) z → part w ≡ part z
-  gives_back first start text kept parts idle begun v w z idles was begins same told lines all low now =
-      let go = goes_on first start kept idle begun z idles was begins lines all low now in
-      restarts parts v text kept w go.value z told go.also (same ∙ sym go.same) go.leads
 
   -- ---- what is found by marks
 
@@ -241,10 +196,3 @@ module _ {A P : Type 0} (effect : Effects A) (changes : A → List ℕ → Bool)
             let kept_text : kept ≡ more = kept_is ∙ ap (λ (k : Bool). (if k then lines_added (changes v) (mark v) p.whole else []) ++ more) is in
             let here : part x ≡ part u = refused_leads lines (keeping false v) x (laws.again false v) led ∙ laws.same false v ∙ same in
             later x rest more w u z told also here sound (subst (λ (l : List ℕ). Leads effect u (lines_of l) z) kept_text leads)
-
-    -- a log that was replayed and then kept lines of an input has marks that agree
-    pub gives_sound : (first start text kept : List ℕ) (parts : List Part) (idle begun v w z : A) → Is true idle → IsReplayed effect idle first begun → Begins start → part v ≡ part begun → AreTold effect changes mark keeping settled v parts text kept w
-        → AreLines first → AreLines ((first ++ start) ++ kept) → length ((first ++ start) ++ kept) ≤ text_limit → IsReplayed effect idle ((first ++ start) ++ kept) z → ((x : A) → Passes start begun x → Sound x) → Sound z
-    gives_sound first start text kept parts idle begun v w z idles was begins same told lines all low now sound =
-        let go = goes_on first start kept idle begun z idles was begins lines all low now in
-        restarts_sound parts v text kept w go.value z told go.also (same ∙ sym go.same) (sound go.value go.passed) go.leads

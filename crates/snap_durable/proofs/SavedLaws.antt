@@ -18,12 +18,12 @@ use Rattle.snap_pieces.specs.declared.line.Line.{Line}
 use Rattle.snap_checkpoint.specs.Lines.{none_left}
 use Rattle.snap_session.proofs.ToldLaws.{begins}
 use Rattle.snap_durable.proofs.FeedLaws.{of_value}
-use Rattle.snap_durable.proofs.LoggedLaws.{no_feed}
+use Rattle.snap_durable.proofs.SoundLaws.{no_feed}
 use Rattle.snap_durable.specs.Checkpoints.{mark_text, saved_line, saved_text}
 
 -- ---- a line
 
-open_of : (bytes : List ℕ) → has_feed bytes ≡ false → is_open bytes ≡ true
+pub open_of : (bytes : List ℕ) → has_feed bytes ≡ false → is_open bytes ≡ true
 open_of [] none = refl
 open_of (b ∷ bytes) none = by (b == 10) (open_of bytes) none
   where

@@ -13,29 +13,30 @@ use Rattle.snap_lines.specs.Lines.{lines_of}
 use Rattle.snap_lines.specs.Transcripts.{Transcript, transcript}
 use Rattle.snap_lines.specs.declared.stop.Stop.{Stop}
 use Rattle.snap_lines.specs.declared.stop.Stop.TheVariants.{Line, InputFailed, OutputFailed, OutOfMemory}
-use Rattle.snap_session.specs.Kept.{KeptValue, idle_kept, served_kept}
+use Rattle.snap_session.specs.Kept.{KeptValue, idle_kept}
+use Rattle.snap_session.specs.Resumed.{resumed_kept}
 use Rattle.snap_session.specs.Opened.{ScriptValue}
 use Rattle.snap_session.specs.Script.{RunnerValue, effect_of, unbegun}
 use Rattle.snap_session.specs.declared.run.RunOptions.{RunOptions}
-use Rattle.snap_durable.specs.Holdings.{contents_of}
+use Rattle.snap_durable.specs.Holdings.{OfNamespace, contents_of}
 use Rattle.snap_durable.specs.Parts.{line_read}
 use Rattle.snap_durable.specs.Served.{IsReplayed}
 use Rattle.snap_durable.specs.declared.check.Checked.{Checked}
 use Rattle.snap_durable.specs.declared.holding.Contents.{Contents}
 
 -- what a script's store has, where it has opened one
-abbrev pub contents_in : ScriptValue → Option Contents
-contents_in s = option_map contents_of (option_map (λ opened. opened.world) s.store)
+abbrev pub contents_in : {H : Type 0} → OfNamespace H → ScriptValue → Option (Contents H)
+contents_in of s = option_map (contents_of of) (option_map (λ opened. opened.world) s.store)
 
 -- what is told of a server: it is whole exactly where its marks agree
-abbrev pub checked_of : KeptValue → Checked
-checked_of v = record { is_whole = marks_agree v.sums; sums = v.sums; contents = contents_in v.server.stepped.script }
+abbrev pub checked_of : {H : Type 0} → OfNamespace H → KeptValue → Checked H
+checked_of of v = record { is_whole = marks_agree v.sums; sums = v.sums; contents = contents_in of v.server.stepped.script }
 
 -- a log of this text was carried out from no store on, and this is told of what it makes
-pub record IsLogChecked (text : List ℕ) (checked : Checked) : Type 0 where
+pub record IsLogChecked {H : Type 0} (of : OfNamespace H) (text : List ℕ) (checked : Checked H) : Type 0 where
   pub value : KeptValue
-  pub replayed : IsReplayed served_kept idle_kept text value
-  pub told : checked ≡ checked_of value
+  pub replayed : IsReplayed resumed_kept idle_kept text value
+  pub told : checked ≡ checked_of of value
 
 -- the lines of a saved store are carried out up to the first that is refused
 abbrev pub saved_options : RunOptions
@@ -46,8 +47,8 @@ abbrev pub saved_run : List ℕ → Transcript RunnerValue
 saved_run bytes = transcript None effect_of (unbegun saved_options) bytes
 
 -- no line has a fault or is refused, and the store has this
-abbrev pub IsSavedChecked : List ℕ → Option Contents → Type 0
-IsSavedChecked bytes contents = ((saved_run bytes).fault ≡ None) × (contents ≡ contents_in (saved_run bytes).value.stepped.script)
+abbrev pub IsSavedChecked : {H : Type 0} → OfNamespace H → List ℕ → Option (Contents H) → Type 0
+IsSavedChecked of bytes contents = ((saved_run bytes).fault ≡ None) × (contents ≡ contents_in of (saved_run bytes).value.stepped.script)
 
 -- where they end at a line, this is the first that has a fault or is refused
 abbrev pub IsFirstFault : List ℕ → Stop → Type 0

@@ -10,9 +10,10 @@ use Rattle.snap_pieces.specs.declared.line.Line.{Line}
 use Rattle.snap_pieces.specs.Written.{line_data}
 use Rattle.snap_script.specs.declared.command.Command.TheVariants.{Restore}
 use Rattle.snap_script.specs.declared.line.Line.TheVariants.{Command}
-use Rattle.snap_session.specs.Kept.{KeptValue, idle_kept, kept_line, served_kept}
+use Rattle.snap_session.specs.Kept.{KeptValue, idle_kept, kept_line}
+use Rattle.snap_session.specs.Resumed.{resumed_kept}
 use Rattle.snap_session.specs.Commands.{roll}
-use Rattle.snap_session.specs.Opened.{OpenedValue, ScriptValue}
+use Rattle.snap_session.specs.Opened.{OpenedValue, ScriptValue, only_store}
 use Rattle.snap_session.specs.Saving.{saving_of}
 use Rattle.snap_session.specs.declared.saving.Saving.TheVariants as savings
 use Rattle.snap_durable.specs.Served.{IsReplayed, text_limit}
@@ -52,10 +53,6 @@ mark_text lines = mark_behind no_sums lines ++ 10 ∷ []
 abbrev pub checkpoint_text : List Line → List ℕ
 checkpoint_text lines = mark_text [] ++ (saved_text lines ++ mark_text (saved_text lines))
 
--- a script whose store is this one
-abbrev pub script_with : OpenedValue → ScriptValue
-script_with s = record { store = Some s; gathered = None; lost = None; spent = false }
-
 -- a store after a roll to as many entries
 abbrev pub rolled : OpenedValue → OpenedValue
 rolled s = record { world = (roll s.world s.world.limit).0 }
@@ -63,13 +60,13 @@ rolled s = record { world = (roll s.world s.world.limit).0 }
 -- the lines of the store that a text makes, whose marks agree; carried out, they give back the very store that a roll leaves, and their marks agree
 pub record IsCheckpoint (text text_new : List ℕ) : Type 0 where
   pub begun : KeptValue
-  pub replayed : IsReplayed served_kept idle_kept text begun
+  pub replayed : IsReplayed resumed_kept idle_kept text begun
   pub agrees : marks_agree begun.sums ≡ true
   pub lines : List Line
   pub saved : saving_of begun.server.stepped.script.store ≡ savings.Lines lines
   pub is : text_new ≡ checkpoint_text lines
-  pub gives_back : (s : OpenedValue) → begun.server.stepped.script.store ≡ Some s → length text_new ≤ text_limit → (again : KeptValue) → IsReplayed served_kept idle_kept text_new again → again.server.stepped.script ≡ script_with (rolled s)
-  pub agrees_again : (s : OpenedValue) → begun.server.stepped.script.store ≡ Some s → length text_new ≤ text_limit → (again : KeptValue) → IsReplayed served_kept idle_kept text_new again → marks_agree again.sums ≡ true
+  pub gives_back : (s : OpenedValue) → begun.server.stepped.script.store ≡ Some s → length text_new ≤ text_limit → (again : KeptValue) → IsReplayed resumed_kept idle_kept text_new again → again.server.stepped.script ≡ only_store (rolled s)
+  pub agrees_again : (s : OpenedValue) → begun.server.stepped.script.store ≡ Some s → length text_new ≤ text_limit → (again : KeptValue) → IsReplayed resumed_kept idle_kept text_new again → marks_agree again.sums ≡ true
 
 -- of what lines have made no checkpoint is made: marks don't agree, or no store can be saved
 abbrev pub IsUnsaved : KeptValue → NoCheckpoint → Type 0
@@ -91,7 +88,7 @@ IsUnwritten lines (whys.Refused why) = ⊥
 
 -- a text has made that, where it was carried out
 abbrev pub HasUnsaved : List ℕ → NoCheckpoint → Type 0
-HasUnsaved text why = (v : KeptValue) × IsReplayed served_kept idle_kept text v × IsUnsaved v why
+HasUnsaved text why = (v : KeptValue) × IsReplayed resumed_kept idle_kept text v × IsUnsaved v why
 
 -- no checkpoint is made of a text: it wasn't carried out, it has made what can't be saved, or memory was refused
 abbrev pub IsUnmade : List ℕ → NoCheckpoint → Type 0

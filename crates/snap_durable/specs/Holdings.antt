@@ -25,7 +25,7 @@ records_at place rs = filter (λ r. r.namespace == place) rs
 abbrev pub kind_count : Kind → List Record → ℕ
 kind_count kind rs = count_by (λ r. is_same_kind (kind_of r.content) kind) rs
 
--- what the store has of the namespace of this name, which stands at the place and is charged this
+-- in numbers, what the store has of the namespace of this name, which stands at the place and is charged this
 abbrev pub holding_at : WorldValue → Bytes → ℕ → Usage → Holding
 holding_at w name place charged = record {
   charged = charged;
@@ -36,17 +36,21 @@ holding_at w name place charged = record {
   leases = length (told_leases w.state.leases name);
 }
 
--- a name with what the store has of it, if it has such a namespace
-abbrev pub named_holding : WorldValue → Bytes → Option (Bytes × Holding)
-named_holding w name = option_map (λ place. (name, holding_at w name place (charge_of place w.state.records))) (place_of name w.state.namespaces)
+-- what is told of a namespace of a store, by its name, its place and its charge
+abbrev pub OfNamespace : Type 0 → Type 0
+OfNamespace H = WorldValue → Bytes → ℕ → Usage → H
+
+-- a name with what is told of it, if the store has such a namespace
+abbrev pub named_holding : {H : Type 0} → OfNamespace H → WorldValue → Bytes → Option (Bytes × H)
+named_holding of w name = option_map (λ place. (name, of w name place (charge_of place w.state.records))) (place_of name w.state.namespaces)
 
 -- the same, where a namespace stands there
-abbrev pub holding_of_place : WorldValue → Namespace → Option (Bytes × Holding)
-holding_of_place w n = if is_taken n then named_holding w n.name else None
+abbrev pub holding_of_place : {H : Type 0} → OfNamespace H → WorldValue → Namespace → Option (Bytes × H)
+holding_of_place of w n = if is_taken n then named_holding of w n.name else None
 
 -- the entries of its round, and its namespaces, in the order of their places
-abbrev pub contents_of : WorldValue → Contents
-contents_of w = record { entries = length w.journal; namespaces = filter_map (holding_of_place w) w.state.namespaces }
+abbrev pub contents_of : {H : Type 0} → OfNamespace H → WorldValue → Contents H
+contents_of of w = record { entries = length w.journal; namespaces = filter_map (holding_of_place of w) w.state.namespaces }
 
 -- what a store has of a namespace, as JSON
 abbrev pub holding_data : Holding → Data

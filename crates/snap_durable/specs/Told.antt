@@ -6,6 +6,7 @@ use Rattle.snap_record.specs.Labels.{Bytes}
 use Rattle.snap_values.specs.Values.{maybe, members_with_entries, number_data}
 use Rattle.snap_durable.specs.Holdings.{holding_data}
 use Rattle.snap_durable.specs.declared.holding.Contents.{Contents}
+use Rattle.snap_durable.specs.declared.holding.Holding.{Holding}
 use Rattle.snap_durable.specs.declared.told.FileKind.{FileKind}
 use Rattle.snap_durable.specs.declared.told.FileKind.TheVariants.{Log, Saved}
 use Rattle.snap_durable.specs.declared.told.Told.{Told}
@@ -16,7 +17,7 @@ file_kind_word Log = codes "log"
 file_kind_word Saved = codes "saved"
 
 -- of a file whose lines have made a store
-abbrev pub found_data : FileKind → Option Bytes → Contents → Data
+abbrev pub found_data : FileKind → Option Bytes → Contents Holding → Data
 found_data kind why c = object
     (member (codes "entries") (number_data c.entries)
     (member (codes "kind") (string (file_kind_word kind))
@@ -32,7 +33,7 @@ unfound_data kind why = object
     (maybe (codes "why") (option_map string why) no_members)))
 
 -- of either
-abbrev pub told_of : FileKind → Option Bytes → Option Contents → Data
+abbrev pub told_of : FileKind → Option Bytes → Option (Contents Holding) → Data
 told_of kind why (Some contents) = found_data kind why contents
 told_of kind why None = unfound_data kind why
 

@@ -7,7 +7,7 @@ ghost use Rattle.snap_durable.specs.Checked.{IsFirstFault, IsLogChecked, IsSaved
 
 use crate::changes::first_line;
 use crate::chunk::READS;
-use crate::holding::{Contents, contents_of};
+use crate::holding::{Contents, FromNamespace, contents_of};
 use crate::restart::{ReplayError, replay};
 use snap_ledger::{NewTable, StoreName};
 use snap_lines::{Stop, read_lines};
@@ -15,33 +15,36 @@ use snap_log::Log;
 use snap_marks::{Sums, is_mark};
 use snap_path::NoMemory;
 use snap_script::{Command, FieldRule, Line, ReadError, Scratch, read_line};
-use snap_session::{KeptServer, RunOptions, Runner};
+use snap_session::{KeptServer, Resuming, RunOptions, Runner};
 use sqlite_disk::Disk;
 use std::alloc::{AllocError, Global};
 use std::io::{self, Read};
 use std::marker::Brand;
 
-/// What was found in a log.
+/// What was found in a log, with `H` told of each namespace.
 #[derive(Drop)]
-pub struct Checked {
+pub struct Checked<H> {
     /// Whether each mark agrees with the lines before it and with their answers, and the last line is one, if there is
     /// any.
     pub is_whole: bool,
     /// What the marks tell.
     pub sums: Sums,
     /// What the store has, where the lines have opened one.
-    pub contents: Option<Contents>,
+    pub contents: Option<Contents<H>>,
 }
 
 // How the lines of a saved store are carried out: up to the first that is refused.
-const SAVED: RunOptions = RunOptions {
+pub(crate) const SAVED: RunOptions = RunOptions {
     fields: FieldRule::Any,
     stops_at_refusal: true,
 };
 
 // What is told of a server.
-fn checked_of<N: StoreName>(alloc: Global, server: &KeptServer<N>) -> Result<Checked, AllocError>
-    ensures { IfOk result (λ checked. checked ≡ checked_of server.now) }
+fn checked_of<N: StoreName, H: FromNamespace + Drop>(
+    alloc: Global,
+    server: &KeptServer<N>,
+) -> Result<Checked<H>, AllocError>
+    ensures { IfOk result (λ checked. checked ≡ checked_of H.of_namespace server.now) }
 {
     Ok(Checked {
         is_whole: server.is_whole(),
@@ -50,47 +53,51 @@ fn checked_of<N: StoreName>(alloc: Global, server: &KeptServer<N>) -> Result<Che
     })
 }
 
-// Checks a log by a server that has answered no line.
-fn check_by<N: StoreName, D: Disk>(
+// Checks a log by a server that has carried out no line.
+fn check_by<N: StoreName, H: FromNamespace + Drop, D: Disk>(
     alloc: Global,
-    server: &mut KeptServer<N>,
+    resuming: &mut Resuming<N>,
     log: &mut Log<D>,
-) -> Result<Checked, ReplayError>
-    requires { server.old ≡ idle_kept }
-    ensures done { IfOk result (λ checked. IsHonest log.new → IsLogChecked (text_in log.old) checked) }
+) -> Result<Checked<H>, ReplayError>
+    requires { resuming.old ≡ idle_kept }
+    ensures done { IfOk result (λ checked. IsHonest log.new → IsLogChecked H.of_namespace (text_in log.old) checked) }
     ensures text { text_in log.new ≡ text_in log.old }
     ensures crash { (c : List ℕ) → D.Disk.may_leave (disk_of log.new) c → D.Disk.may_leave (disk_of log.old) c }
     ensures clean { IsHonest log.new → IsHonest log.old }
 {
-    replay(alloc, server, log)?;
-    match checked_of(alloc, server) {
+    replay(alloc, resuming, log)?;
+    match checked_of(alloc, resuming.server()) {
         Ok(checked) => Ok(checked),
         Err(refused) => Err(ReplayError::Stopped(refused.into())),
     }
 }
 
-fn run<N: StoreName, D: Disk>(
+fn run<N: StoreName, H: FromNamespace + Drop, D: Disk>(
     alloc: Global,
     table: NewTable,
     log: &mut Log<D>,
-) -> Result<Checked, ReplayError>
+) -> Result<Checked<H>, ReplayError>
     requires { table ≡ N.table }
-    ensures done { IfOk result (λ checked. IsHonest log.new → IsLogChecked (text_in log.old) checked) }
+    ensures done { IfOk result (λ checked. IsHonest log.new → IsLogChecked H.of_namespace (text_in log.old) checked) }
     ensures text { text_in log.new ≡ text_in log.old }
     ensures crash { (c : List ℕ) → D.Disk.may_leave (disk_of log.new) c → D.Disk.may_leave (disk_of log.old) c }
     ensures clean { IsHonest log.new → IsHonest log.old }
 {
-    let mut server: KeptServer<N> = KeptServer::new(alloc, table);
-    check_by(alloc, &mut server, log)
+    let mut resuming: Resuming<N> = Resuming::new(KeptServer::new(alloc, table));
+    check_by(alloc, &mut resuming, log)
 }
 
 /// Carries out the lines of a log from no store on, and tells whether its marks agree and what the store has.
 ///
 /// At `Ok` this is said of what the log's text makes of a server of scripts. `Io` where a call of the disk failed;
 /// `Stopped` where memory was refused. The log has its text as before. The cost and the memory are those of
-/// [`replay`], and the memory of a copy of the namespaces' names and of the leases.
-pub fn check_log<D: Disk>(alloc: Global, log: &mut Log<D>) -> Result<Checked, ReplayError>
-    ensures done { IfOk result (λ checked. IsHonest log.new → IsLogChecked (text_in log.old) checked) }
+/// [`replay`], and the memory of a copy of the namespaces' names and of the leases, or of all that a
+/// [`Space`](crate::Space) has.
+pub fn check_log<H: FromNamespace + Drop, D: Disk>(
+    alloc: Global,
+    log: &mut Log<D>,
+) -> Result<Checked<H>, ReplayError>
+    ensures done { IfOk result (λ checked. IsHonest log.new → IsLogChecked H.of_namespace (text_in log.old) checked) }
     ensures text { text_in log.new ≡ text_in log.old }
     // Whatever the call answers, a crash leaves what could be left before.
     ensures crash { (c : List ℕ) → D.Disk.may_leave (disk_of log.new) c → D.Disk.may_leave (disk_of log.old) c }
@@ -100,30 +107,30 @@ pub fn check_log<D: Disk>(alloc: Global, log: &mut Log<D>) -> Result<Checked, Re
         Ok(table) => table,
         Err(refused) => return Err(ReplayError::Stopped(refused.into())),
     };
-    run::<Brand, D>(alloc, table, log)
+    run::<Brand, H, D>(alloc, table, log)
 }
 
 // Checks the lines of a saved store by a run that has taken no line.
-fn saved_by<N: StoreName, R: Read>(
+fn saved_by<N: StoreName, H: FromNamespace + Drop, R: Read>(
     alloc: Global,
     runner: &mut Runner<N>,
     input: &mut R,
-) -> Result<Option<Contents>, Stop>
+) -> Result<Option<Contents<H>>, Stop>
     requires { runner.old ≡ unbegun saved_options }
-    ensures done { IfOk result (λ contents. IfSome (R.remaining input.old) (λ bytes. IsSavedChecked bytes contents)) }
+    ensures done { IfOk result (λ contents. IfSome (R.remaining input.old) (λ bytes. IsSavedChecked H.of_namespace bytes contents)) }
     ensures stopped { IfErr result (λ stop. IfSome (R.remaining input.old) (λ bytes. IsFirstFault bytes stop)) }
 {
     read_lines(alloc, runner, input, &mut io::sink(), None, READS)?;
     Ok(contents_of(alloc, runner.world())?)
 }
 
-fn run_saved<N: StoreName, R: Read>(
+fn run_saved<N: StoreName, H: FromNamespace + Drop, R: Read>(
     alloc: Global,
     table: NewTable,
     input: &mut R,
-) -> Result<Option<Contents>, Stop>
+) -> Result<Option<Contents<H>>, Stop>
     requires { table ≡ N.table }
-    ensures done { IfOk result (λ contents. IfSome (R.remaining input.old) (λ bytes. IsSavedChecked bytes contents)) }
+    ensures done { IfOk result (λ contents. IfSome (R.remaining input.old) (λ bytes. IsSavedChecked H.of_namespace bytes contents)) }
     ensures stopped { IfErr result (λ stop. IfSome (R.remaining input.old) (λ bytes. IsFirstFault bytes stop)) }
 {
     let mut runner: Runner<N> = Runner::new(alloc, table, SAVED);
@@ -134,16 +141,19 @@ fn run_saved<N: StoreName, R: Read>(
 ///
 /// `Line` at the first line that is no command or is refused; `InputFailed` where a read failed; `OutOfMemory` where
 /// memory was refused. The cost and the memory are those of the lines.
-pub fn check_saved<R: Read>(alloc: Global, input: &mut R) -> Result<Option<Contents>, Stop>
-    ensures done { IfOk result (λ contents. IfSome (R.remaining input.old) (λ bytes. IsSavedChecked bytes contents)) }
+pub fn check_saved<H: FromNamespace + Drop, R: Read>(
+    alloc: Global,
+    input: &mut R,
+) -> Result<Option<Contents<H>>, Stop>
+    ensures done { IfOk result (λ contents. IfSome (R.remaining input.old) (λ bytes. IsSavedChecked H.of_namespace bytes contents)) }
     ensures stopped { IfErr result (λ stop. IfSome (R.remaining input.old) (λ bytes. IsFirstFault bytes stop)) }
 {
     let table = NewTable::new(alloc)?;
-    run_saved::<Brand, R>(alloc, table, input)
+    run_saved::<Brand, H, R>(alloc, table, input)
 }
 
 // Whether a command is that of a line of a saved store.
-fn is_restore(command: &Command) -> bool
+fn is_restore(command: &Command<'_>) -> bool
     ensures { result ≡ is_saved_command command.now }
 {
     match command {
@@ -153,7 +163,7 @@ fn is_restore(command: &Command) -> bool
 }
 
 // Whether what was read of a line is a line of a saved store.
-fn is_saved_line(line: &Line) -> bool
+fn is_saved_line(line: &Line<'_>) -> bool
     ensures { result ≡ is_saved_line (Ok line.now) }
 {
     match line {

@@ -1,7 +1,10 @@
 // What a store has of each namespace.
-ghost use Rattle.std.specs.Prelude.{◌≡◌, IfOk, count_by, filter_map, map, option_copied, option_map};
+ghost use Rattle.std.specs.Prelude.{◌≡◌, ℕ, IfOk, count_by, filter_map, map, option_copied, option_map};
+ghost use Rattle.snap_usage.specs.declared.usage.Usage.{Usage};
 ghost use Rattle.snap_record.specs.Filters.{is_same_kind};
+ghost use Rattle.snap_record.specs.Labels.{Bytes};
 ghost use Rattle.snap_record.specs.Records.{kind_of};
+ghost use Rattle.snap_world.specs.World.{WorldValue};
 ghost use Rattle.snap_durable.specs.Holdings.{contents_of, holding_at, holding_data, holding_of_place, kind_count, named_holding};
 
 use snap_call::Namespace;
@@ -14,7 +17,7 @@ use snap_world::World;
 use std::alloc::{AllocError, Global};
 
 /// What a store has of a namespace, in blocks of 4096 bytes and inodes, and in numbers.
-#[derive(Clone, Copy, Debug)]
+#[derive(Clone, Copy, Debug, PartialEq, Eq)]
 pub struct Holding {
     /// What it is charged.
     pub charged: Usage,
@@ -30,13 +33,33 @@ pub struct Holding {
     pub leases: u64,
 }
 
-/// What a store has.
+/// What a store has, with `H` told of each namespace.
 #[derive(Drop)]
-pub struct Contents {
+pub struct Contents<H> {
     /// The entries of its round.
     pub entries: u64,
     /// Its namespaces with their names, in the order of their places.
-    pub namespaces: Sequence<(Text, Holding)>,
+    pub namespaces: Sequence<(Text, H)>,
+}
+
+/// What is told of a namespace of a store: in numbers a [`Holding`], or each snapshot and each lease in a
+/// [`Space`](crate::Space).
+pub trait FromNamespace {
+    ghost of_namespace: { WorldValue → Bytes → ℕ → Usage → Self };
+
+    /// What the store has of the namespace of this name, which stands at the place and is charged this.
+    ///
+    /// It fails only where memory is refused, which it takes for a list of the namespace's snapshots and copies of its
+    /// leases, for a [`Space`](crate::Space) of the snapshots' texts too. The cost grows with these, and with the number
+    /// of leases of all namespaces.
+    fn from_namespace<N: StoreName>(
+        alloc: Global,
+        world: &World<N>,
+        name: &Text,
+        place: usize,
+        charged: Usage,
+    ) -> Result<Self, AllocError>
+        ensures { IfOk result (λ told. told ≡ of_namespace world.now name.now place charged) };
 }
 
 // How many of the records are of this kind.
@@ -56,35 +79,36 @@ fn kind_count(records: &[&Record], kind: Kind) -> u64
     count_lent(records, kind) as u64
 }
 
-// What the store has of the namespace of this name, which stands at the place and is charged this.
-fn holding_at<N: StoreName>(
-    alloc: Global,
-    world: &World<N>,
-    name: &Text,
-    place: usize,
-    charged: Usage,
-) -> Result<Holding, AllocError>
-    ensures { IfOk result (λ holding. holding ≡ holding_at world.now name.now place charged) }
-{
-    let records = world.records().list_of(alloc, place)?;
-    let leases = world.leases().infos(name.as_str())?;
-    Ok(Holding {
-        charged,
-        limit: world.state().limit_at(place),
-        committed: kind_count(records.as_slice(), Kind::Committed),
-        active: kind_count(records.as_slice(), Kind::Active),
-        views: kind_count(records.as_slice(), Kind::View),
-        leases: leases.len() as u64,
-    })
+impl FromNamespace for Holding {
+    ghost of_namespace = { holding_at };
+
+    fn from_namespace<N: StoreName>(
+        alloc: Global,
+        world: &World<N>,
+        name: &Text,
+        place: usize,
+        charged: Usage,
+    ) -> Result<Holding, AllocError> {
+        let records = world.records().list_of(alloc, place)?;
+        let leases = world.leases().infos(name.as_str())?;
+        Ok(Holding {
+            charged,
+            limit: world.state().limit_at(place),
+            committed: kind_count(records.as_slice(), Kind::Committed),
+            active: kind_count(records.as_slice(), Kind::Active),
+            views: kind_count(records.as_slice(), Kind::View),
+            leases: leases.len() as u64,
+        })
+    }
 }
 
-// The same with its name, if the store has such a namespace.
-fn named_holding<N: StoreName>(
+// What the store has of the namespace of this name, with its name, if there is such a one.
+fn named_holding<N: StoreName, H: FromNamespace + Drop>(
     alloc: Global,
     world: &World<N>,
     name: &Text,
-) -> Result<Option<(Text, Holding)>, AllocError>
-    ensures { IfOk result (λ found. found ≡ named_holding world.now name.now) }
+) -> Result<Option<(Text, H)>, AllocError>
+    ensures { IfOk result (λ found. found ≡ named_holding H.of_namespace world.now name.now) }
 {
     let Some(place) = world.state().place_of(name.as_str()) else {
         return Ok(None);
@@ -92,17 +116,17 @@ fn named_holding<N: StoreName>(
     let Some(charged) = world.totals(name.as_str()) else {
         return Ok(None);
     };
-    let holding = holding_at(alloc, world, name, place, charged)?;
+    let holding = H::from_namespace(alloc, world, name, place, charged)?;
     Ok(Some((name.clone()?, holding)))
 }
 
 // The same, where a namespace stands there.
-fn holding_of_place<N: StoreName>(
+fn holding_of_place<N: StoreName, H: FromNamespace + Drop>(
     alloc: Global,
     world: &World<N>,
     namespace: &Namespace,
-) -> Result<Option<(Text, Holding)>, AllocError>
-    ensures { IfOk result (λ found. found ≡ holding_of_place world.now namespace.now) }
+) -> Result<Option<(Text, H)>, AllocError>
+    ensures { IfOk result (λ found. found ≡ holding_of_place H.of_namespace world.now namespace.now) }
 {
     if !namespace.is_taken() {
         return Ok(None);
@@ -110,11 +134,12 @@ fn holding_of_place<N: StoreName>(
     named_holding(alloc, world, &namespace.name)
 }
 
-fn holdings<N: StoreName>(
+// What the store has of its namespaces, in the order of their places.
+pub(crate) fn holdings<N: StoreName, H: FromNamespace + Drop>(
     alloc: Global,
     world: &World<N>,
-) -> Result<Sequence<(Text, Holding)>, AllocError>
-    ensures { IfOk result (λ found. found ≡ filter_map (holding_of_place world.now) world.now.state.namespaces) }
+) -> Result<Sequence<(Text, H)>, AllocError>
+    ensures { IfOk result (λ found. found ≡ filter_map (holding_of_place H.of_namespace world.now) world.now.state.namespaces) }
 {
     let mut found = Sequence::new(alloc);
     for namespace in world.state().namespaces.as_slice() {
@@ -126,11 +151,11 @@ fn holdings<N: StoreName>(
 }
 
 // What the store has, where one stands.
-pub(crate) fn contents_of<N: StoreName>(
+pub(crate) fn contents_of<N: StoreName, H: FromNamespace + Drop>(
     alloc: Global,
     world: Option<&World<N>>,
-) -> Result<Option<Contents>, AllocError>
-    ensures { IfOk result (λ contents. contents ≡ option_map contents_of (option_copied world.entry)) }
+) -> Result<Option<Contents<H>>, AllocError>
+    ensures { IfOk result (λ contents. contents ≡ option_map (contents_of H.of_namespace) (option_copied world.entry)) }
 {
     let Some(world) = world else {
         return Ok(None);

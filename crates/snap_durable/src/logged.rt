@@ -15,7 +15,7 @@ use snap_lines::Stop;
 use snap_log::{AppendFailed, Lines, Log};
 use snap_marks::Sums;
 use snap_path::NoMemory;
-use snap_session::KeptServer;
+use snap_session::{KeptServer, Resuming};
 use sqlite_disk::Disk;
 use std::alloc::Global;
 use std::io::{self, Read, Write};
@@ -76,7 +76,7 @@ fn rebased<N: StoreName, D: Disk>(
 }
 
 // The log to serve over, where its marks agree, or begin anew.
-fn started<N: StoreName, D: Disk>(
+pub(crate) fn started<N: StoreName, D: Disk>(
     alloc: Global,
     server: &KeptServer<N>,
     log: Log<D>,
@@ -97,31 +97,32 @@ fn started<N: StoreName, D: Disk>(
     rebased(alloc, server, log)
 }
 
-// The same by a server that has answered no line.
+// The same by a server that has carried out no line.
 fn serve_by<N: StoreName, R: Read, W: Write, D: Disk>(
     alloc: Global,
-    server: &mut KeptServer<N>,
+    mut resuming: Resuming<N>,
     mut log: Log<D>,
     rebases: bool,
     input: &mut R,
     output: &mut W,
 ) -> Result<Log<D>, Unserved<D>>
-    requires { server.old ≡ idle_kept }
+    requires { resuming ≡ idle_kept }
     ensures done { IfOk result (λ log_new. IfSome (R.remaining input.old) (λ bytes. HasServedLog rebases bytes log (W.contents output.old) log_new (W.contents output.new))) }
     ensures differs { IfErr result (λ why. IfDiffers why (λ log_new sums. IsRefused log log_new sums)) }
     ensures crash { IsTrue (D.Disk.is_clean (disk_left result)) → (c : List ℕ) → D.Disk.may_leave (disk_left result) c
         → IfSome (R.remaining input.old) (λ bytes. LeavesLog rebases bytes (text_in log) c (W.contents output.old) (W.contents output.new)) }
     ensures clean { IsTrue (D.Disk.is_clean (disk_left result)) → IsHonest log }
 {
-    if let Err(error) = replay(alloc, server, &mut log) {
+    if let Err(error) = replay(alloc, &mut resuming, &mut log) {
         return Err(Unserved::Replay(log, error));
     }
-    let log = match started(alloc, server, log, rebases) {
+    let mut server = resuming.into_server();
+    let log = match started(alloc, &server, log, rebases) {
         Ok(log) => log,
         Err(why) => return Err(why),
     };
     server.begin_input();
-    match serve_lines(alloc, server, log, input, output) {
+    match serve_lines(alloc, &mut server, log, input, output) {
         Ok(log) => Ok(log),
         Err(ended) => Err(Unserved::Ended(ended)),
     }
@@ -142,8 +143,8 @@ fn run<N: StoreName, R: Read, W: Write, D: Disk>(
         → IfSome (R.remaining input.old) (λ bytes. LeavesLog rebases bytes (text_in log) c (W.contents output.old) (W.contents output.new)) }
     ensures clean { IsTrue (D.Disk.is_clean (disk_left result)) → IsHonest log }
 {
-    let mut server: KeptServer<N> = KeptServer::new(alloc, table);
-    serve_by(alloc, &mut server, log, rebases, input, output)
+    let server: KeptServer<N> = KeptServer::new(alloc, table);
+    serve_by(alloc, Resuming::new(server), log, rebases, input, output)
 }
 
 /// Carries out a log from no store on, and then serves the lines of an input, of which those that change the store are

@@ -9,6 +9,7 @@ ghost use Rattle.snap_marks.specs.Sums.{no_sum};
 ghost use Rattle.snap_pieces.specs.Read.{line_said};
 ghost use Rattle.snap_pieces.specs.Written.{line_data};
 ghost use Rattle.snap_durable.specs.Checkpoints.{IsTold, has_long, is_long, mark_text, saved_line, saved_text};
+ghost use Rattle.snap_durable.specs.Moved.{IsUnfilled};
 ghost use Rattle.snap_durable.specs.declared.saved.Unwritten.TheVariants.{TooLong};
 
 use snap_checkpoint::StoreLines;
@@ -25,6 +26,7 @@ use std::io;
 const PART: usize = 262_144;
 
 // Why the text of a checkpoint wasn't written.
+#[derive(Drop)]
 pub(crate) enum Unwritten {
     // Memory was refused.
     OutOfMemory(NoMemory),
@@ -84,6 +86,7 @@ fn add_line(alloc: Global, line: &Line, text: &mut Lines, sums: &mut Sums) -> Re
     ensures text { OnOk result (text.new ≡ text.old ++ saved_line line.now) }
     ensures sum { OnOk result ((more : List ℕ) → chained_lines sums.new.lines more ≡ chained_lines sums.old.lines (saved_line line.now ++ more)) }
     ensures told { OnOk result (IsTold line.now) }
+    ensures why { IfErr result IsUnfilled }
     ensures long { IfErr result (λ why. why ≡ TooLong → is_long line.now ≡ true) }
 {
     let told = line_text(alloc, line)?;
@@ -110,6 +113,7 @@ pub(crate) fn fill(
     ensures told { OnOk result (AllByRecursion IsTold lines.new → AllByRecursion IsTold lines.old) }
     ensures fewer { OnOk result (none_left lines.old ≡ false → length lines.new < length lines.old) }
     ensures left { OnOk result (has_long lines.new ≡ true → has_long lines.old ≡ true) }
+    ensures why { IfErr result IsUnfilled }
     ensures long { IfErr result (λ why. why ≡ TooLong → has_long lines.old ≡ true) }
 {
     'lines: while let Some(line) = lines.next_line()? {
@@ -123,7 +127,8 @@ pub(crate) fn fill(
 
 // The mark behind lines of this sum, none of which had an answer, as a line of a log.
 pub(crate) fn mark_line(alloc: Global, sums: &Sums) -> Result<Lines, NoMemory>
-    ensures { (text : List ℕ) → sums.now.lines ≡ chained_lines no_sum text → IfOk result (λ lines. lines ≡ mark_text text) }
+    ensures text { (text : List ℕ) → sums.now.lines ≡ chained_lines no_sum text → IfOk result (λ lines. lines ≡ mark_text text) }
+    ensures some { IfOk result (λ lines. 0 < length lines) }
 {
     let mut all = Sums::new();
     all.lines = sums.lines;

@@ -46,7 +46,7 @@ fn take_part<T: KeepLine, W: Write, D: Disk>(
 }
 
 // Takes the bytes of a read. Up to the line by which the taker is settled, each line is a part of its own.
-fn take_read<T: KeepLine, W: Write, D: Disk>(
+pub(crate) fn take_read<T: KeepLine, W: Write, D: Disk>(
     alloc: Global,
     taker: &mut T,
     batch: &mut Batch,
@@ -73,7 +73,7 @@ fn take_read<T: KeepLine, W: Write, D: Disk>(
 }
 
 // Serves the line that has begun, at the end of the input.
-fn finish<T: KeepLine, W: Write, D: Disk>(
+pub(crate) fn finish<T: KeepLine, W: Write, D: Disk>(
     alloc: Global,
     taker: &mut T,
     batch: &mut Batch,

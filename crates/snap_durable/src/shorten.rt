@@ -7,7 +7,7 @@ ghost use Rattle.snap_marks.specs.Sums.{marks_agree, no_sum};
 ghost use Rattle.snap_pair.specs.Pair.{ArePairHonest, PairKeeps, first_of, lines_in, second_of};
 ghost use Rattle.snap_pair.specs.Replacing.{AreReplacingHonest, LeavesCounting, first_in, lines_coming, lines_counting, second_in};
 ghost use Rattle.snap_pair.specs.Texts.{pair_text};
-ghost use Rattle.snap_session.specs.Kept.{idle_kept, served_kept};
+ghost use Rattle.snap_session.specs.Kept.{idle_kept};
 ghost use Rattle.snap_session.specs.Saving.{SavesRolled, saving_of};
 ghost use Rattle.snap_session.specs.declared.saving.Saving.TheVariants as savings;
 ghost use Rattle.snap_durable.specs.Checkpoints.{AreHonestLeft, IfStands, IfUnmade, IsCheckpoint, IsTold, IsUnmade, IsUnsaved, IsUnwritten, checkpoint_text, first_left, has_long, saved_text, second_left};
@@ -24,7 +24,7 @@ use snap_log::Lines;
 use snap_marks::Sums;
 use snap_pair::{Failed, Halves, Pair, ReplaceFailed, Replacing};
 use snap_path::NoMemory;
-use snap_session::{KeptServer, Saving};
+use snap_session::{KeptServer, Resuming, Saving};
 use sqlite_disk::Disk;
 use std::alloc::Global;
 use std::io;
@@ -155,13 +155,17 @@ fn replace<D: Disk>(
 
 // The pair, whose lines were carried out, or why they weren't.
 #[derive(Drop)]
-struct Replayed<D: Disk> {
-    pair: Pair<D>,
-    done: Result<(), ReplayError>,
+pub(crate) struct Replayed<D: Disk> {
+    pub(crate) pair: Pair<D>,
+    pub(crate) done: Result<(), ReplayError>,
 }
 
 // Carries out the lines that count.
-fn replay_pair<T: TakeLine, D: Disk>(alloc: Global, taker: &mut T, pair: Pair<D>) -> Replayed<D>
+pub(crate) fn replay_pair<T: TakeLine, D: Disk>(
+    alloc: Global,
+    taker: &mut T,
+    pair: Pair<D>,
+) -> Replayed<D>
     ensures done { OnOk result.done (ArePairHonest result.pair → IsReplayed T.effect taker.old (lines_in pair) taker.new) }
     ensures lines { ArePairHonest result.pair → PairKeeps result.pair (lines_in pair) }
     ensures clean { ArePairHonest result.pair → ArePairHonest pair }
@@ -206,13 +210,13 @@ fn saved_lines<N: StoreName>(
     }
 }
 
-// The same by a server that has answered no line.
+// The same by a server that has carried out no line.
 fn checkpoint_by<N: StoreName, D: Disk>(
     alloc: Global,
-    server: &mut KeptServer<N>,
+    resuming: &mut Resuming<N>,
     pair: Pair<D>,
 ) -> Result<Pair<D>, Uncheckpointed<D>>
-    requires { server.old ≡ idle_kept }
+    requires { resuming.old ≡ idle_kept }
     ensures made { IfOk result (λ pair_new. ArePairHonest pair_new → (text : List ℕ) × IsCheckpoint (lines_in pair) text × PairKeeps pair_new text) }
     ensures why { IfUnmade result (λ pair_new why. ArePairHonest pair_new → IsUnmade (lines_in pair) why) }
     ensures stands { IfStands result (λ pair_new. ArePairHonest pair_new → PairKeeps pair_new (lines_in pair)) }
@@ -221,11 +225,11 @@ fn checkpoint_by<N: StoreName, D: Disk>(
     ensures first { IsTrue (D.Disk.is_clean (first_left result)) → IsTrue (D.Disk.is_clean (first_of pair)) }
     ensures second { IsTrue (D.Disk.is_clean (second_left result)) → IsTrue (D.Disk.is_clean (second_of pair)) }
 {
-    let Replayed { pair, done } = replay_pair(alloc, server, pair);
+    let Replayed { pair, done } = replay_pair(alloc, resuming, pair);
     if let Err(error) = done {
         return Err(Uncheckpointed::Unmade(pair, NoCheckpoint::Replay(error)));
     }
-    match saved_lines(alloc, server) {
+    match saved_lines(alloc, resuming.server()) {
         Ok(lines) => replace(alloc, pair, lines),
         Err(why) => Err(Uncheckpointed::Unmade(pair, why)),
     }
@@ -245,19 +249,20 @@ fn run<N: StoreName, D: Disk>(
     ensures first { IsTrue (D.Disk.is_clean (first_left result)) → IsTrue (D.Disk.is_clean (first_of pair)) }
     ensures second { IsTrue (D.Disk.is_clean (second_left result)) → IsTrue (D.Disk.is_clean (second_of pair)) }
 {
-    let mut server: KeptServer<N> = KeptServer::new(alloc, table);
-    checkpoint_by(alloc, &mut server, pair)
+    let mut resuming: Resuming<N> = Resuming::new(KeptServer::new(alloc, table));
+    checkpoint_by(alloc, &mut resuming, pair)
 }
 
 /// Carries out a log in two files, and lets the lines of its store take the place of all others, as one, with a mark
-/// before them, by which the text is a checkpoint's, and one behind them: a crash at any moment leaves these or those. They make the store that a `roll` to as many entries leaves.
+/// before them, by which the text is a checkpoint's, and one behind them: a crash at any moment leaves these or those.
+/// They make the store that a `roll` to as many entries leaves.
 ///
 /// `Unmade` where no line of them counts: the log's lines were not carried out, as where it could not be read or memory
 /// was refused; its marks don't agree; it has no store; its store can't be rolled to as many entries; a line of it
-/// would have more than 16 MiB; or memory was refused. The log's lines are then as they were. `Failed` with `NotKept` where a write failed, as on a full disk: they
-/// are as they were too. `Failed` with `Unknown` where a sync failed, or the write of a byte by which lines count. The
-/// cost is that of the log's commands and of the store's lines, which are written in parts of 256 KiB; takes memory for
-/// the store, a copy of it, and such a part.
+/// would have more than 16 MiB; or memory was refused. The log's lines are then as they were. `Failed` with `NotKept`
+/// where a write failed, as on a full disk: they are as they were too. `Failed` with `Unknown` where a sync failed, or
+/// the write of a byte by which lines count. The cost is that of the log's commands and of the store's lines, which are
+/// written in parts of 256 KiB; takes memory for the store, a copy of it, and such a part.
 pub fn checkpoint<D: Disk>(alloc: Global, pair: Pair<D>) -> Result<Pair<D>, Uncheckpointed<D>>
     ensures made { IfOk result (λ pair_new. ArePairHonest pair_new → (text : List ℕ) × IsCheckpoint (lines_in pair) text × PairKeeps pair_new text) }
     ensures why { IfUnmade result (λ pair_new why. ArePairHonest pair_new → IsUnmade (lines_in pair) why) }

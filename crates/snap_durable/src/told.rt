@@ -26,7 +26,7 @@ pub struct Told {
     /// Why it isn't whole.
     pub why: Option<Text>,
     /// What the store has, where the file has made one.
-    pub contents: Option<Contents>,
+    pub contents: Option<Contents<Holding>>,
 }
 
 impl FileKind {
@@ -48,7 +48,7 @@ fn found(
     out: &mut Writer,
     kind: FileKind,
     why: &Option<Text>,
-    contents: &Contents,
+    contents: &Contents<Holding>,
 ) -> Result<(), AllocError>
     ensures { OnOk result (out.new ≡ with_value (found_data kind why.now contents.now) out.old) }
 {
@@ -119,7 +119,7 @@ fn write_holding<W: fmt::Write>(
 fn write_whole<W: fmt::Write>(
     f: &mut fmt::Formatter<W>,
     kind: FileKind,
-    contents: &Option<Contents>,
+    contents: &Option<Contents<Holding>>,
 ) -> fmt::Result {
     match (kind, contents) {
         (FileKind::Log, Some(contents)) => writeln!(

@@ -18,9 +18,9 @@ pub run_done : (input : Option (List ℕ)) (options : RunOptions) (ended : Resul
 run_done None options ended left before after status is replayed = tt
 run_done (Some bytes) options ended left before after status is replayed = (ended, is, replayed)
 
-pub serve_done : (input : Option (List ℕ)) (rebases : Bool) (ended : Result (Unit {0}) Ended) (left before after : Option (List ℕ)) (status : ℕ) → status ≡ exit_of ended → IfSome input (λ bytes. HasServed bytes left ended before after) → IfSome input (λ bytes. HasDone (Some (Serve None rebases)) bytes left status before after)
-serve_done None rebases ended left before after status is served = tt
-serve_done (Some bytes) rebases ended left before after status is served = (ended, is, served)
+pub serve_done : (input : Option (List ℕ)) (rebases : Bool) (times : ℕ) (ended : Result (Unit {0}) Ended) (left before after : Option (List ℕ)) (status : ℕ) → status ≡ exit_of ended → IfSome input (λ bytes. HasServed bytes left ended before after) → IfSome input (λ bytes. HasDone (Some (Serve None rebases times)) bytes left status before after)
+serve_done None rebases times ended left before after status is served = tt
+serve_done (Some bytes) rebases times ended left before after status is served = (ended, is, served)
 
 pub jobs_done : (input : Option (List ℕ)) (options : JobOptions) (ended : Result (Unit {0}) Ended) (left before after : Option (List ℕ)) (status : ℕ) → status ≡ exit_of ended → IfSome input (λ bytes. HasRunJobs options bytes left ended before after) → IfSome input (λ bytes. HasDone (Some (Writers options)) bytes left status before after)
 jobs_done None options ended left before after status is ran = tt

@@ -7,7 +7,7 @@ use Rattle.std.specs.declared.num.ParseIntError.{ParseIntError}
 use Rattle.std.proofs.Common.{◌≡◌, ◌⊎◌, inl, inr, ℕ, ◌<◌, ◌≤◌, Bool, true, false, List, length, Option, None, Some, Result, refl, sym, ap, ap₂, ◌∙◌, subst, arith}
 use Rattle.std.proofs.lemmas.Bool.Decides.{nat_tests}
 use Rattle.std.proofs.lemmas.Slice.Eq.{bytes_eq-Decides}
-use Rattle.clap.specs.Words.{ReadsOne, Row, Text, first_of, found_of, one_of, rows_of, subcommand_name_of, subcommand_rows, subcommand_rows_of}
+use Rattle.clap.specs.Words.{ReadsOne, Row, Text, found_of, one_of, rows_of, subcommand_name_of, subcommand_rows, subcommand_rows_of}
 use Rattle.clap.specs.declared.parser.matches.ArgMatches.{ArgMatches}
 use Rattle.clap.specs.declared.parser.matches.SubCommand.{SubCommand}
 use Rattle.std.specs.Borrow.{Bor}
@@ -16,8 +16,8 @@ use Rattle.std.specs.Prelude.{Box}
 use Rattle.clap.specs.declared.parser.matches.ArgMatches.TheViews.{out-ArgMatches, out-SubCommand}
 use Rattle.snap_script.specs.declared.unknown.FieldRule.{FieldRule}
 use Rattle.snap_replay.specs.declared.Task.{Task}
-use Rattle.snap_replay.specs.declared.Task.TheVariants.{Run, Serve, Writers, Check, Checkpoint}
-use Rattle.snap_replay.specs.Words.{IsAsked, IsAskedAs, IsAskedBy, IsCheckOf, IsCheckpointOf, IsNumberOf, IsServer, field_rule_of, is_given, job_options_of, run_options_of, writers_of}
+use Rattle.snap_replay.specs.declared.Task.TheVariants.{Run, Serve, Writers, Save, Check, Checkpoint, Diff}
+use Rattle.snap_replay.specs.Words.{IsAsked, IsAskedAs, IsAskedBy, IsCheckOf, IsCheckpointOf, IsDiffOf, IsNumberOf, IsSaveOf, IsServer, field_rule_of, is_given, job_options_of, run_options_of, writers_of}
 use Rattle.snap_replay.specs.Tasks.{IsTask}
 
 pub same_text : (a b : List ℕ) → a ≡ b → bytes_eq a b ≡ true
@@ -74,19 +74,27 @@ asks_serve name rows task is asked = subst (λ (n : List ℕ). IsAskedBy n rows 
 pub asks_writers : (name : List ℕ) (rows : List Row) (task : Option Task) → name ≡ codes "writers" → ((number : Option ℕ) × IsNumberOf (one_of (codes "workers") rows) number × (task ≡ writers_of number rows)) → IsAskedBy name rows task
 asks_writers name rows task is asked = subst (λ (n : List ℕ). IsAskedBy n rows task) (sym is) asked
 
+pub asks_save : (name : List ℕ) (rows : List Row) (task : Option Task) → name ≡ codes "save" → IsSaveOf rows task → IsAskedBy name rows task
+asks_save name rows task is asked = subst (λ (n : List ℕ). IsAskedBy n rows task) (sym is) asked
+
 pub asks_check : (name : List ℕ) (rows : List Row) (task : Option Task) → name ≡ codes "check" → IsCheckOf rows task → IsAskedBy name rows task
 asks_check name rows task is asked = subst (λ (n : List ℕ). IsAskedBy n rows task) (sym is) asked
 
 pub asks_checkpoint : (name : List ℕ) (rows : List Row) (task : Option Task) → name ≡ codes "checkpoint" → IsCheckpointOf rows task → IsAskedBy name rows task
 asks_checkpoint name rows task is asked = subst (λ (n : List ℕ). IsAskedBy n rows task) (sym is) asked
 
-pub asks_none : (name : List ℕ) (rows : List Row) → (name ≡ codes "run" → ⊥) → (name ≡ codes "serve" → ⊥) → (name ≡ codes "writers" → ⊥) → (name ≡ codes "check" → ⊥) → (name ≡ codes "checkpoint" → ⊥) → IsAskedBy name rows None
-asks_none name rows a b c d e =
-    subst (λ x. IsAskedAs x (bytes_eq name (codes "serve")) (bytes_eq name (codes "writers")) (bytes_eq name (codes "check")) (bytes_eq name (codes "checkpoint")) rows None) (sym (other_text name (codes "run") a))
-    (subst (λ x. IsAskedAs false x (bytes_eq name (codes "writers")) (bytes_eq name (codes "check")) (bytes_eq name (codes "checkpoint")) rows None) (sym (other_text name (codes "serve") b))
-    (subst (λ x. IsAskedAs false false x (bytes_eq name (codes "check")) (bytes_eq name (codes "checkpoint")) rows None) (sym (other_text name (codes "writers") c))
-    (subst (λ x. IsAskedAs false false false x (bytes_eq name (codes "checkpoint")) rows None) (sym (other_text name (codes "check") d))
-    (subst (λ x. IsAskedAs false false false false x rows None) (sym (other_text name (codes "checkpoint") e)) refl))))
+pub asks_diff : (name : List ℕ) (rows : List Row) (task : Option Task) → name ≡ codes "diff" → IsDiffOf rows task → IsAskedBy name rows task
+asks_diff name rows task is asked = subst (λ (n : List ℕ). IsAskedBy n rows task) (sym is) asked
+
+pub asks_none : (name : List ℕ) (rows : List Row) → (name ≡ codes "run" → ⊥) → (name ≡ codes "serve" → ⊥) → (name ≡ codes "writers" → ⊥) → (name ≡ codes "save" → ⊥) → (name ≡ codes "check" → ⊥) → (name ≡ codes "checkpoint" → ⊥) → (name ≡ codes "diff" → ⊥) → IsAskedBy name rows None
+asks_none name rows a b c d e f g =
+    subst (λ x. IsAskedAs x (bytes_eq name (codes "serve")) (bytes_eq name (codes "writers")) (bytes_eq name (codes "save")) (bytes_eq name (codes "check")) (bytes_eq name (codes "checkpoint")) (bytes_eq name (codes "diff")) rows None) (sym (other_text name (codes "run") a))
+    (subst (λ x. IsAskedAs false x (bytes_eq name (codes "writers")) (bytes_eq name (codes "save")) (bytes_eq name (codes "check")) (bytes_eq name (codes "checkpoint")) (bytes_eq name (codes "diff")) rows None) (sym (other_text name (codes "serve") b))
+    (subst (λ x. IsAskedAs false false x (bytes_eq name (codes "save")) (bytes_eq name (codes "check")) (bytes_eq name (codes "checkpoint")) (bytes_eq name (codes "diff")) rows None) (sym (other_text name (codes "writers") c))
+    (subst (λ x. IsAskedAs false false false x (bytes_eq name (codes "check")) (bytes_eq name (codes "checkpoint")) (bytes_eq name (codes "diff")) rows None) (sym (other_text name (codes "save") d))
+    (subst (λ x. IsAskedAs false false false false x (bytes_eq name (codes "checkpoint")) (bytes_eq name (codes "diff")) rows None) (sym (other_text name (codes "check") e))
+    (subst (λ x. IsAskedAs false false false false false x (bytes_eq name (codes "diff")) rows None) (sym (other_text name (codes "checkpoint") f))
+    (subst (λ x. IsAskedAs false false false false false false x rows None) (sym (other_text name (codes "diff") g)) refl))))))
 
 -- the file that was found
 pub file_none : (name : Option (Bor Text)) (first : Option Text) → option_map (λ n. n.now) name ≡ first → name ≡ None → first ≡ None
@@ -129,29 +137,51 @@ writers_task (Some w) rows = by (nat_le 1 w && nat_le w 16) refl
     by true e = let low : 1 ≤ w = grind (arith, nat_tests) in let high : w ≤ 16 = grind (arith, nat_tests) in (low, high)
     by false e = tt
 
-task_as : (a b c d e : Bool) (rows : List Row) (task : Option Task) → IsAskedAs a b c d e rows task → IfSome task IsTask
-task_as true b c d e rows task h = subst (λ t. IfSome t IsTask) (sym h) tt
-task_as false true c d e rows (Some (Serve log rebases)) h = tt
-task_as false true c d e rows (Some (Run options)) h = absurd h
-task_as false true c d e rows (Some (Writers options)) h = absurd h
-task_as false true c d e rows (Some (Check file json)) h = absurd h
-task_as false true c d e rows (Some (Checkpoint file)) h = absurd h
-task_as false true c d e rows None h = absurd h
-task_as false false true d e rows task h = subst (λ t. IfSome t IsTask) (sym h.2) (writers_task h.0 rows)
-task_as false false false true e rows (Some (Check file json)) h = tt
-task_as false false false true e rows (Some (Run options)) h = absurd h
-task_as false false false true e rows (Some (Serve log rebases)) h = absurd h
-task_as false false false true e rows (Some (Writers options)) h = absurd h
-task_as false false false true e rows (Some (Checkpoint file)) h = absurd h
-task_as false false false true e rows None h = tt
-task_as false false false false true rows (Some (Checkpoint file)) h = tt
-task_as false false false false true rows (Some (Run options)) h = absurd h
-task_as false false false false true rows (Some (Serve log rebases)) h = absurd h
-task_as false false false false true rows (Some (Writers options)) h = absurd h
-task_as false false false false true rows (Some (Check file json)) h = absurd h
-task_as false false false false true rows None h = tt
-task_as false false false false false rows task h = subst (λ t. IfSome t IsTask) (sym h) tt
+task_as : (a b c d e f g : Bool) (rows : List Row) (task : Option Task) → IsAskedAs a b c d e f g rows task → IfSome task IsTask
+task_as true b c d e f g rows task h = subst (λ t. IfSome t IsTask) (sym h) tt
+task_as false true c d e f g rows (Some (Serve log rebases times)) h = tt
+task_as false true c d e f g rows (Some (Run options)) h = absurd h
+task_as false true c d e f g rows (Some (Writers options)) h = absurd h
+task_as false true c d e f g rows (Some (Save file wanted)) h = absurd h
+task_as false true c d e f g rows (Some (Check file json)) h = absurd h
+task_as false true c d e f g rows (Some (Checkpoint file)) h = absurd h
+task_as false true c d e f g rows (Some (Diff one other json)) h = absurd h
+task_as false true c d e f g rows None h = absurd h
+task_as false false true d e f g rows task h = subst (λ t. IfSome t IsTask) (sym h.2) (writers_task h.0 rows)
+task_as false false false true e f g rows (Some (Save file wanted)) h = tt
+task_as false false false true e f g rows (Some (Run options)) h = absurd h
+task_as false false false true e f g rows (Some (Serve log rebases times)) h = absurd h
+task_as false false false true e f g rows (Some (Writers options)) h = absurd h
+task_as false false false true e f g rows (Some (Check file json)) h = absurd h
+task_as false false false true e f g rows (Some (Checkpoint file)) h = absurd h
+task_as false false false true e f g rows (Some (Diff one other json)) h = absurd h
+task_as false false false true e f g rows None h = tt
+task_as false false false false true f g rows (Some (Check file json)) h = tt
+task_as false false false false true f g rows (Some (Run options)) h = absurd h
+task_as false false false false true f g rows (Some (Serve log rebases times)) h = absurd h
+task_as false false false false true f g rows (Some (Writers options)) h = absurd h
+task_as false false false false true f g rows (Some (Save file wanted)) h = absurd h
+task_as false false false false true f g rows (Some (Checkpoint file)) h = absurd h
+task_as false false false false true f g rows (Some (Diff one other json)) h = absurd h
+task_as false false false false true f g rows None h = tt
+task_as false false false false false true g rows (Some (Checkpoint file)) h = tt
+task_as false false false false false true g rows (Some (Run options)) h = absurd h
+task_as false false false false false true g rows (Some (Serve log rebases times)) h = absurd h
+task_as false false false false false true g rows (Some (Writers options)) h = absurd h
+task_as false false false false false true g rows (Some (Save file wanted)) h = absurd h
+task_as false false false false false true g rows (Some (Check file json)) h = absurd h
+task_as false false false false false true g rows (Some (Diff one other json)) h = absurd h
+task_as false false false false false true g rows None h = tt
+task_as false false false false false false true rows (Some (Diff one other json)) h = tt
+task_as false false false false false false true rows (Some (Run options)) h = absurd h
+task_as false false false false false false true rows (Some (Serve log rebases times)) h = absurd h
+task_as false false false false false false true rows (Some (Writers options)) h = absurd h
+task_as false false false false false false true rows (Some (Save file wanted)) h = absurd h
+task_as false false false false false false true rows (Some (Check file json)) h = absurd h
+task_as false false false false false false true rows (Some (Checkpoint file)) h = absurd h
+task_as false false false false false false true rows None h = tt
+task_as false false false false false false false rows task h = subst (λ t. IfSome t IsTask) (sym h) tt
 
 pub asked_task : (found : Option (Text × List Row)) (task : Option Task) → IsAsked found task → IfSome task IsTask
 asked_task None task h = subst (λ t. IfSome t IsTask) (sym h) tt
-asked_task (Some found) task h = task_as (bytes_eq found.0 (codes "run")) (bytes_eq found.0 (codes "serve")) (bytes_eq found.0 (codes "writers")) (bytes_eq found.0 (codes "check")) (bytes_eq found.0 (codes "checkpoint")) found.1 task h
+asked_task (Some found) task h = task_as (bytes_eq found.0 (codes "run")) (bytes_eq found.0 (codes "serve")) (bytes_eq found.0 (codes "writers")) (bytes_eq found.0 (codes "save")) (bytes_eq found.0 (codes "check")) (bytes_eq found.0 (codes "checkpoint")) (bytes_eq found.0 (codes "diff")) found.1 task h

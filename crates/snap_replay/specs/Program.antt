@@ -1,5 +1,5 @@
 -- What the program declares to clap: its commands and their options.
-use Rattle.std.specs.Prelude.{◌≡◌, pos, true, false, Bool, List, [], ◌∷◌, Option, Some, codes}
+use Rattle.std.specs.Prelude.{◌≡◌, ℕ, pos, true, false, Bool, List, [], ◌∷◌, Option, Some, codes}
 use Rattle.clap.specs.Simple.{App, Shape, new_rule, new_shape, shape_of, subcommand_of}
 use Rattle.clap.specs.Takes.{takes}
 use Rattle.clap.specs.Walk.{Row, Rule, Text, rule_of}
@@ -21,6 +21,10 @@ valued name = record (new_rule name) { long = Some name; action = Some Set; valu
 abbrev pub wanted_number : Text → Rule
 wanted_number name = record (valued name) { required = true; parser = Some (parser.Signed (pos 1) (pos 16)) }
 
+-- an option of this name with a number up to this one
+abbrev pub number_to : Text → ℕ → Rule
+number_to name most = record (valued name) { parser = Some (parser.Signed (pos 0) (pos most)) }
+
 -- a word that is no option, without which the command isn't taken
 abbrev pub wanted_place : Text → Rule
 wanted_place name = record (new_rule name) { required = true; action = Some Set; value_names = 1 }
@@ -38,12 +42,20 @@ abbrev pub run_shape : Shape
 run_shape = command_shape (codes "run") (flag (codes "strict") ∷ flag (codes "stop") ∷ [])
 
 -- `serve [--log FILE [--rebase]]`
+abbrev pub kept_shape : Shape
+kept_shape = command_shape (codes "serve") (valued (codes "log") ∷ beside_another (flag (codes "rebase")) ∷ [])
+
+-- `serve [--log FILE [--rebase] [--checkpoint N]]`
 abbrev pub serve_shape : Shape
-serve_shape = command_shape (codes "serve") (valued (codes "log") ∷ beside_another (flag (codes "rebase")) ∷ [])
+serve_shape = command_shape (codes "serve") (valued (codes "log") ∷ beside_another (flag (codes "rebase")) ∷ beside_another (number_to (codes "checkpoint") 1000000) ∷ [])
 
 -- `writers --workers N [--ends] [--strict]`
 abbrev pub writers_shape : Shape
 writers_shape = command_shape (codes "writers") (wanted_number (codes "workers") ∷ flag (codes "ends") ∷ flag (codes "strict") ∷ [])
+
+-- `save FILE [--root ROOT] [--ns NS]`
+abbrev pub save_shape : Shape
+save_shape = command_shape (codes "save") (wanted_place (codes "file") ∷ valued (codes "root") ∷ valued (codes "ns") ∷ [])
 
 -- `check FILE [--json]`
 abbrev pub check_shape : Shape
@@ -53,11 +65,15 @@ check_shape = command_shape (codes "check") (wanted_place (codes "file") ∷ fla
 abbrev pub checkpoint_shape : Shape
 checkpoint_shape = command_shape (codes "checkpoint") (wanted_place (codes "file") ∷ [])
 
+-- `diff A B [--json]`
+abbrev pub diff_shape : Shape
+diff_shape = command_shape (codes "diff") (wanted_place (codes "a") ∷ wanted_place (codes "b") ∷ flag (codes "json") ∷ [])
+
 -- one of these commands has to be named
 abbrev pub program : App
 program = record {
   top = record (new_shape (codes "snap_replay")) { is_leaf = false; has_version = true; subcommand_required = true };
-  subs = run_shape ∷ serve_shape ∷ writers_shape ∷ check_shape ∷ checkpoint_shape ∷ [];
+  subs = run_shape ∷ serve_shape ∷ writers_shape ∷ save_shape ∷ check_shape ∷ checkpoint_shape ∷ diff_shape ∷ [];
 }
 
 -- the command that the words of a command line name, the program's name first, and what clap finds of its options

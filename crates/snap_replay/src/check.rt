@@ -2,7 +2,10 @@
 ghost use Rattle.std.specs.Prelude.{◌≡◌};
 
 use crate::logged::{LogStop, file_stop, open_log};
-use snap_durable::{Contents, FileKind, ReplayError, Told, begins_saved, check_log, check_saved};
+use snap_durable::{
+    Contents, FileKind, FromNamespace, Holding, ReplayError, Told, begins_saved, check_log,
+    check_saved,
+};
 use snap_lines::{Stop, write_bytes};
 use snap_record::Text;
 use std::alloc::Global;
@@ -13,9 +16,9 @@ use std::{fmt, fs};
 const HEAD: usize = 65_536;
 
 // What was found in a file: what the store has, and why the file isn't whole.
-struct Found {
-    contents: Option<Contents>,
-    stop: Option<LogStop>,
+pub(crate) struct Found<H> {
+    pub(crate) contents: Option<Contents<H>>,
+    pub(crate) stop: Option<LogStop>,
 }
 
 // The first bytes of a file.
@@ -37,7 +40,11 @@ fn read_head<R: Read>(alloc: Global, file: &mut R) -> Result<Vec<u8>, LogStop> {
 }
 
 // A log, unless it has at most one byte: then there is no line, and the file isn't opened to be one.
-fn check_log_in(rt: &HostRuntime, path: &str, head: &[u8]) -> Result<Found, LogStop> {
+fn check_log_in<H: FromNamespace + Drop>(
+    rt: &HostRuntime,
+    path: &str,
+    head: &[u8],
+) -> Result<Found<H>, LogStop> {
     if head.len() <= 1 {
         return Ok(Found {
             contents: None,
@@ -70,7 +77,10 @@ fn check_log_in(rt: &HostRuntime, path: &str, head: &[u8]) -> Result<Found, LogS
 }
 
 // The lines of a saved store.
-fn check_saved_in<R: Read>(alloc: Global, file: &mut R) -> Result<Found, LogStop> {
+fn check_saved_in<H: FromNamespace + Drop, R: Read>(
+    alloc: Global,
+    file: &mut R,
+) -> Result<Found<H>, LogStop> {
     match check_saved(alloc, file) {
         Ok(Some(contents)) => Ok(Found {
             contents: Some(contents),
@@ -96,22 +106,34 @@ pub(crate) fn open_file(rt: &HostRuntime, path: &str) -> Result<fs::File, LogSto
     }
 }
 
-// The kind of a file, and what was found in it.
-fn check_in(rt: &HostRuntime, path: &str) -> Result<(FileKind, Found), LogStop> {
+// The kind of a file, and its first bytes.
+pub(crate) fn kind_in(rt: &HostRuntime, path: &str) -> Result<(FileKind, Vec<u8>), LogStop> {
     let alloc = rt.alloc();
     let mut file = open_file(rt, path)?;
     let head = read_head(alloc, &mut file)?;
     // A lock that another handle of this process has goes with it.
     drop(file);
-    let is_saved = match begins_saved(alloc, head.as_slice()) {
-        Ok(is_saved) => is_saved,
-        Err(_) => return Err(LogStop::WantOfMemory),
-    };
-    if is_saved {
-        let mut file = open_file(rt, path)?;
-        return Ok((FileKind::Saved, check_saved_in(alloc, &mut file)?));
+    match begins_saved(alloc, head.as_slice()) {
+        Ok(true) => Ok((FileKind::Saved, head)),
+        Ok(false) => Ok((FileKind::Log, head)),
+        Err(_) => Err(LogStop::WantOfMemory),
     }
-    Ok((FileKind::Log, check_log_in(rt, path, head.as_slice())?))
+}
+
+// The kind of a file, and what was found in it.
+pub(crate) fn check_in<H: FromNamespace + Drop>(
+    rt: &HostRuntime,
+    path: &str,
+) -> Result<(FileKind, Found<H>), LogStop> {
+    let (kind, head) = kind_in(rt, path)?;
+    let found = match kind {
+        FileKind::Saved => {
+            let mut file = open_file(rt, path)?;
+            check_saved_in(rt.alloc(), &mut file)?
+        }
+        FileKind::Log => check_log_in(rt, path, head.as_slice())?,
+    };
+    Ok((kind, found))
 }
 
 // The words for why a file isn't whole.
@@ -128,12 +150,28 @@ fn words_of(alloc: Global, stop: &Option<LogStop>) -> Result<Option<Text>, LogSt
     }
 }
 
+// Has what was written reach the stream.
+pub(crate) fn flush<W: Write>(output: &mut W) -> Result<(), LogStop> {
+    match output.flush() {
+        Ok(()) => Ok(()),
+        Err(_) => Err(LogStop::Lines(Stop::OutputFailed)),
+    }
+}
+
+// Writes these bytes, which nothing follows.
+pub(crate) fn write_out<W: Write>(bytes: &[u8], output: &mut W) -> Result<(), LogStop> {
+    if let Err(stop) = write_bytes(output, bytes) {
+        return Err(LogStop::Lines(stop));
+    }
+    flush(output)
+}
+
 // Writes what was found: a line of JSON, or lines for people.
 fn write_found<W: Write>(
     alloc: Global,
     kind: FileKind,
     why: Option<Text>,
-    contents: Option<Contents>,
+    contents: Option<Contents<Holding>>,
     json: bool,
     output: &mut W,
 ) -> Result<(), LogStop> {
@@ -150,13 +188,7 @@ fn write_found<W: Write>(
     let Ok(text) = text else {
         return Err(LogStop::WantOfMemory);
     };
-    if let Err(stop) = write_bytes(output, text.as_bytes()) {
-        return Err(LogStop::Lines(stop));
-    }
-    match output.flush() {
-        Ok(()) => Ok(()),
-        Err(_) => Err(LogStop::Lines(Stop::OutputFailed)),
-    }
+    write_out(text.as_bytes(), output)
 }
 
 // Checks the log or the saved store in a file, and writes what it has. The error is why it isn't whole, or why that

@@ -1,13 +1,17 @@
 // `serve` over a log in a file.
 ghost use Rattle.std.specs.Prelude.{◌≡◌, IfSome, OnOk};
-ghost use Rattle.snap_replay.specs.Logged.{HasServedOver, HasServedOverPair, log_status_of};
+ghost use Rattle.snap_replay.specs.Logged.{HasServedOver, HasServedOverPair, HasServedShort, log_status_of};
 
 use snap_call::Refusal;
-use snap_durable::{Ended, ReplayError, ServedPair, Unserved, serve_log, serve_pair};
+use snap_durable::{
+    Ended, ReplayError, ServedPair, Unserved, UnservedFiles, serve_and_shorten, serve_log,
+    serve_pair,
+};
 use snap_lines::Stop;
 use snap_log::{Log, OpenError};
 use snap_marks::{Difference, Differs, Sums};
 use snap_pair::Pair;
+use snap_world::RestoreFault;
 use sqlite_disk::{Disk, Files};
 use sqlite_std_file::{FileFrom, OpenError as FileError, Wary, open};
 use std::alloc::Global;
@@ -39,6 +43,14 @@ pub(crate) enum LogStop {
     NoRoll(Refusal),
     // A line of its store would have more than 16 MiB.
     TooLong,
+    // Its store has no namespace of this name.
+    NoNamespace,
+    // No store can have this root.
+    BadRoot,
+    // No store can be made of what moves.
+    Unfit(RestoreFault),
+    // Such a store has not the same.
+    Changed,
 }
 
 impl LogStop {
@@ -49,7 +61,9 @@ impl LogStop {
         match self {
             LogStop::Lines(stop) => stop.status(),
             LogStop::WantOfMemory => 4,
+            LogStop::BadRoot => 2,
             LogStop::NoEnd | LogStop::NoStore | LogStop::NoRoll(_) | LogStop::TooLong => 5,
+            LogStop::NoNamespace | LogStop::Unfit(_) | LogStop::Changed => 5,
             LogStop::Busy => 6,
             LogStop::Io(_) | LogStop::Refused(_) => 7,
             LogStop::Unknown(_) => 8,
@@ -104,6 +118,10 @@ impl fmt::Display for LogStop {
             LogStop::NoStore => f.write_str("the log has no store"),
             LogStop::NoRoll(why) => write!(f, "no next round begins: {why}"),
             LogStop::TooLong => f.write_str("a line of the store would have more than 16 MiB"),
+            LogStop::NoNamespace => f.write_str("the store has no namespace of this name"),
+            LogStop::BadRoot => f.write_str("no store can have this root"),
+            LogStop::Unfit(fault) => write!(f, "no store can be made of it: {fault}"),
+            LogStop::Changed => f.write_str("the store made of it has not the same"),
         }
     }
 }
@@ -163,6 +181,30 @@ fn lines_over_pair<D: Disk + Drop, R: Read, W: Write>(
     match served {
         Ok(_) => Ok(()),
         Err(why) => Err(unserved(why)),
+    }
+}
+
+// Serves them over a log in two files, which is made short where it has grown to so many times what it had.
+fn lines_over_files<D: Disk + Drop, R: Read, W: Write>(
+    alloc: Global,
+    pair: Pair<D>,
+    rebases: bool,
+    times: u64,
+    input: &mut R,
+    output: &mut W,
+) -> Result<(), LogStop>
+    ensures { OnOk result (IfSome (R.remaining input.old) (λ bytes. HasServedShort rebases bytes pair (W.contents output.old) (W.contents output.new))) }
+{
+    match serve_and_shorten(alloc, pair, rebases, times, input, output) {
+        Ok(_) => Ok(()),
+        Err(UnservedFiles::Replay(_, error)) => match error {
+            ReplayError::Io(error) => Err(file_stop(error)),
+            ReplayError::Stopped(stop) => Err(LogStop::Lines(stop)),
+        },
+        Err(UnservedFiles::Differs(_, sums)) => Err(LogStop::Differs(sums)),
+        Err(UnservedFiles::NotRebased(_, error)) => Err(file_stop(error)),
+        Err(UnservedFiles::Stopped(_, stop)) => Err(LogStop::Lines(stop)),
+        Err(UnservedFiles::Unknown(_, _, error)) => Err(LogStop::Unknown(error)),
     }
 }
 
@@ -231,15 +273,20 @@ pub(crate) fn open_log(rt: &HostRuntime, path: &str) -> Result<Log<FileFrom<Wary
     }
 }
 
-// Serves the lines of an input over the log in a file, and in the one beside it where that has a byte. Where its marks
-// differ, it does so only if it rebases.
+// Serves the lines of an input over the log in a file and in the one beside it. Where its marks differ, it does so only
+// if it rebases. Where the log is never made short, the other file is one of both only where that has a byte.
 pub(crate) fn serve_file<R: Read, W: Write>(
     rt: &HostRuntime,
     path: &str,
     rebases: bool,
+    times: u64,
     input: &mut R,
     output: &mut W,
 ) -> Result<(), LogStop> {
+    if times > 0 {
+        let pair = open_pair(rt, path)?;
+        return lines_over_files(rt.alloc(), pair, rebases, times, input, output);
+    }
     match open_either(rt, path)? {
         Opened::Alone(log) => lines_over(rt.alloc(), log, rebases, input, output),
         Opened::Pair(pair) => lines_over_pair(rt.alloc(), pair, rebases, input, output),

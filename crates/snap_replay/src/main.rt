@@ -1,7 +1,8 @@
 //! The program `snap_replay`: `snap_replay run` replays a script of a store of snapshots, `snap_replay serve` answers
 //! each line of a client, and `snap_replay writers` runs jobs on a store, from standard input to standard output.
-//! `snap_replay check` tells whether a log or a saved store is whole, and what it has, and `snap_replay checkpoint` makes
-//! a log short.
+//! `snap_replay save` moves a store in a file, `snap_replay check` tells whether a log or a saved store is whole, and
+//! what it has, `snap_replay diff` in what the stores of two such files differ, and `snap_replay checkpoint` makes a log
+//! short.
 //!
 //! What is read and written is `replay`'s and `serve`'s, of the crate `snap_session`, and `write_jobs`'s, of `snap_jobs`;
 //! here are the words of the command line, the standard streams and the status.
@@ -9,23 +10,27 @@
 
 mod check;
 mod checkpoint;
+mod diff;
 mod logged;
+mod save;
 
 ghost use Rattle.clap.specs.Words.{app_of, found_of, kind_of, one_of, rows_of, subcommand_rows_of};
 ghost use Rattle.clap.specs.declared.error.kind.ErrorKind.TheVariants.{OutOfMemory};
 ghost use Rattle.snap_replay.specs.Done.{HasDone, HasActed, IsRefusalStatus};
 ghost use Rattle.snap_replay.specs.Exit.{exit_of, status_of_end};
-ghost use Rattle.snap_replay.specs.Logged.{log_exit_of};
-ghost use Rattle.snap_replay.specs.Program.{IsDeclared, IsOption, beside_another, check_shape, checkpoint_shape, flag, command_found, are_words_taken, program, run_shape, serve_shape, valued, wanted_number, wanted_place, writers_shape};
+ghost use Rattle.snap_replay.specs.Logged.{diff_exit_of, log_exit_of};
+ghost use Rattle.snap_replay.specs.Program.{IsDeclared, IsOption, beside_another, check_shape, checkpoint_shape, diff_shape, flag, command_found, are_words_taken, kept_shape, number_to, program, run_shape, save_shape, serve_shape, valued, wanted_number, wanted_place, writers_shape};
 ghost use Rattle.snap_replay.specs.Replayed.{HasReplayed, HasRunJobs, HasServed};
 ghost use Rattle.snap_replay.specs.Tasks.{IsTask};
-ghost use Rattle.snap_replay.specs.Words.{IsAsked, IsNumberOf, field_rule_of, is_given, run_options_of, writers_of};
+ghost use Rattle.snap_replay.specs.Words.{IsAsked, IsNumberOf, IsTimesOf, field_rule_of, is_given, run_options_of, writers_of};
 ghost use Rattle.snap_replay.specs.declared.Task.TheVariants.{Writers};
 ghost use Rattle.std.specs.Prelude.{◌≡◌, ◌≤◌, IfErr, IfOk, IfSome, Option, codes, map, option_map, string_bytes, true, ℕ};
 
 use crate::check::check_file;
 use crate::checkpoint::checkpoint_file;
+use crate::diff::diff_files;
 use crate::logged::{LogStop, serve_file};
+use crate::save::save_file;
 use clap::error::ErrorKind as WordsErrorKind;
 use clap::{Arg, ArgAction, ArgMatches, Command, Error, value_parser};
 use snap_jobs::{JobOptions, JobsStop, MAX_WORKERS, write_jobs};
@@ -41,6 +46,9 @@ use std::{env, fmt, io};
 
 // The version of the program.
 const VERSION: &str = "0.2.0";
+
+// The status of two stores that differ.
+const DIFFERENT: u8 = 1;
 
 // The status of bad words.
 const BAD_WORDS: u8 = 2;
@@ -143,6 +151,17 @@ fn log_status<T: Eprint>(rt: &T, served: Result<(), LogStop>) -> u8
     }
 }
 
+// The same of a comparison of two stores, by whether they differ.
+fn diff_status<T: Eprint>(rt: &T, compared: Result<bool, LogStop>) -> u8
+    ensures { result ≡ diff_exit_of compared }
+{
+    match compared {
+        Ok(true) => DIFFERENT,
+        Ok(false) => 0,
+        Err(why) => log_status(rt, Err(why)),
+    }
+}
+
 // The words of the command line.
 fn words_of(rt: &HostRuntime) -> Result<Vec<String>, u8> {
     let args = match env::args(rt) {
@@ -161,20 +180,51 @@ fn words_of(rt: &HostRuntime) -> Result<Vec<String>, u8> {
     }
 }
 
+// What is wanted of a store: with another root, where one is named, and of one namespace alone, where one is.
+#[derive(Clone, Copy, Debug, PartialEq, Eq)]
+struct Wanted<'a> {
+    root: Option<&'a str>,
+    namespace: Option<&'a str>,
+}
+
 // What the command line asks for.
 #[derive(Clone, Copy, Debug, PartialEq, Eq)]
 enum Task<'a> {
     // Replay the script on standard input.
-    Run { options: RunOptions },
+    Run {
+        options: RunOptions,
+    },
     // Answer each line on standard input, and keep those that change the store in a file, if one is named. Where its marks
-    // differ, it is served only if it rebases.
-    Serve { log: Option<&'a str>, rebases: bool },
+    // differ, it is served only if it rebases. It is made short where it has grown so many times; 0 never does.
+    Serve {
+        log: Option<&'a str>,
+        rebases: bool,
+        times: u32,
+    },
     // Run the jobs on standard input by 1 to 16 workers.
-    Writers { options: JobOptions },
+    Writers {
+        options: JobOptions,
+    },
+    // Write the lines of what is wanted of the store in a file.
+    Save {
+        file: &'a str,
+        wanted: Wanted<'a>,
+    },
     // Check the log or the saved store in a file, and tell of it by JSON or by lines for people.
-    Check { file: &'a str, json: bool },
+    Check {
+        file: &'a str,
+        json: bool,
+    },
     // Let the lines of a log's store take the place of the log's own.
-    Checkpoint { file: &'a str },
+    Checkpoint {
+        file: &'a str,
+    },
+    // Tell in what the stores of two files differ, by JSON or by lines for people.
+    Diff {
+        a: &'a str,
+        b: &'a str,
+        json: bool,
+    },
 }
 
 // The option that says how many workers there are.
@@ -192,13 +242,31 @@ const LOG: &str = "log";
 // The option of `serve` by which a log's marks are compared anew.
 const REBASE: &str = "rebase";
 
+// The option of `serve` that says how far a log grows before it is made short; the number where it isn't given, and the most.
+const TIMES: &str = "checkpoint";
+
+const DEFAULT_TIMES: u32 = 4;
+
+const MAX_TIMES: u32 = 1_000_000;
+
 // The option of `run` by which it ends at the first refusal.
 const STOP: &str = "stop";
 
-// The file that `check` or `checkpoint` is of.
+// The file that `save`, `check` or `checkpoint` is of.
 const FILE: &str = "file";
 
-// The option of `check` by which JSON is written.
+// The option of `save` that names the root.
+const ROOT: &str = "root";
+
+// The option of `save` that names the one namespace that it writes.
+const NAMESPACE: &str = "ns";
+
+// The files that `diff` is of.
+const A: &str = "a";
+
+const B: &str = "b";
+
+// The option of `check` and of `diff` by which JSON is written.
 const JSON: &str = "json";
 
 // What goes in and out of `run`. The last line works as it stands.
@@ -232,6 +300,18 @@ the store could not be closed.
 Example:
   printf '%s\n' '{"do":"open","root":"/r","namespaces":[["a",9,9]]}' '{"ns":"a","key":"k","parent":"","ops":[],"end":"discard"}' | snap_replay writers --workers 2"#;
 
+// The same for `save`.
+const SAVE_HELP: &str =
+    r#"Carries out the lines of a log, as serve --log keeps it, or of a saved store, and writes those of its store, which
+make it anew in place of `open`. It makes a store of them first, and compares what each namespace has there.
+Nothing of FILE is changed; of a log FILE-wal, which stays empty, is made where it is missing.
+Out: a JSON object a line, as save answers them. Without the last one they make no store.
+Status: 0 done, 2 bad words, a root that none can have or a line that is no command, 3 a read or a write failed,
+4 want of memory, 5 the store has no such namespace, or there is none, or it can't be rolled, or a line of FILE is
+refused; 6, 7 and 9 as of check.
+Example:
+  snap_replay save store.log --ns alice --root /new | snap_replay serve --log new.log"#;
+
 // The same for `check`.
 const CHECK_HELP: &str =
     r#"Carries out the lines of a log, as serve --log keeps it, or of a saved store, of which each is a line that save
@@ -253,6 +333,16 @@ store or it can't be rolled, 6 where another process has the log, 7 where it is 
 write failed, 8 where a sync failed, 9 where its lines aren't those that were written or have other answers now.
 Example:
   snap_replay checkpoint store.log"#;
+
+// The same for `diff`.
+const DIFF_HELP: &str =
+    r#"Carries out the lines of two files as check does, one file after the other, and compares what their stores have.
+Out: a line for each namespace, snapshot or lease that one store alone has, or that differs in some fields:
+charged, limit; kind, labels, parent, usage; names, until; with --json an object. What is in layers isn't compared.
+Status: 0 where they differ in nothing, 1 where they differ, else that of check for the file that standard error
+names.
+Example:
+  snap_replay diff store.log saved.jsonl"#;
 
 // An option that is given or not.
 fn flag<'a>(alloc: Global, name: &'a str, help: &'a str) -> Arg<'a>
@@ -341,9 +431,24 @@ fn rebase_option<'a>(alloc: Global) -> Result<Arg<'a>, Error>
     Ok(rebase.requires_arg(LOG)?)
 }
 
-// The command `serve`.
-fn serve_command<'a>(alloc: Global) -> Result<Command<'a>, Error>
-    ensures declared { IfOk result (IsDeclared serve_shape) }
+// The option that says how far a log grows before it is made short, which needs a log.
+fn times_option<'a>(alloc: Global) -> Result<Arg<'a>, Error>
+    ensures declared { IfOk result (IsOption (beside_another (number_to (codes "checkpoint") 1000000))) }
+    ensures refused { IfErr result (λ e. kind_of e ≡ OutOfMemory) }
+{
+    let times = valued(
+        alloc,
+        TIMES,
+        "N",
+        "Makes the log short where it has grown to N times what it had, of at least 1 MiB (4); 0 never does",
+    )
+    .value_parser(value_parser!(u32).range(0..=MAX_TIMES as i64));
+    Ok(times.requires_arg(LOG)?)
+}
+
+// The command `serve`, but for one option.
+fn kept_command<'a>(alloc: Global) -> Result<Command<'a>, Error>
+    ensures declared { IfOk result (IsDeclared kept_shape) }
     ensures refused { IfErr result (λ e. kind_of e ≡ OutOfMemory) }
 {
     let log = valued(
@@ -352,25 +457,62 @@ fn serve_command<'a>(alloc: Global) -> Result<Command<'a>, Error>
         "FILE",
         "Keeps each line that changes the store in this file before it is answered, and begins with those there",
     );
-    let serve = Command::new(alloc, "serve")
+    let kept = Command::new(alloc, "serve")
         .about(
             "Serves a client: reads a command a line, answers every line and goes on after faults",
         )
         .after_help(SERVE_HELP)
         .arg(log)?
         .arg(rebase_option(alloc)?)?;
+    Ok(kept)
+}
+
+// The command `serve`.
+fn serve_command<'a>(alloc: Global) -> Result<Command<'a>, Error>
+    ensures declared { IfOk result (IsDeclared serve_shape) }
+    ensures refused { IfErr result (λ e. kind_of e ≡ OutOfMemory) }
+{
+    let serve = kept_command(alloc)?.arg(times_option(alloc)?)?;
     Ok(serve)
+}
+
+// A word that has to be there, of which help says this.
+fn wanted_place<'a>(alloc: Global, name: &'a str, value: &'a str, help: &'a str) -> Arg<'a>
+    ensures { IsOption (wanted_place name.entry.now) result }
+{
+    Arg::new(alloc, name)
+        .value_name(value)
+        .help(help)
+        .required(true)
+        .action(ArgAction::Set)
 }
 
 // The file that has to be named.
 fn file_argument<'a>(alloc: Global) -> Arg<'a>
     ensures { IsOption (wanted_place (codes "file")) result }
 {
-    Arg::new(alloc, FILE)
-        .value_name("FILE")
-        .help("A log or a saved store")
-        .required(true)
-        .action(ArgAction::Set)
+    wanted_place(alloc, FILE, "FILE", "A log or a saved store")
+}
+
+// The command `save`.
+fn save_command<'a>(alloc: Global) -> Result<Command<'a>, Error>
+    ensures declared { IfOk result (IsDeclared save_shape) }
+    ensures refused { IfErr result (λ e. kind_of e ≡ OutOfMemory) }
+{
+    let root = valued(alloc, ROOT, "ROOT", "The store's root in place of its own");
+    let namespace = valued(
+        alloc,
+        NAMESPACE,
+        "NS",
+        "Writes this namespace alone, with its snapshots and leases",
+    );
+    let save = Command::new(alloc, "save")
+        .about("Moves a store or a namespace: writes the lines that make it anew")
+        .after_help(SAVE_HELP)
+        .arg(file_argument(alloc))?
+        .arg(root)?
+        .arg(namespace)?;
+    Ok(save)
 }
 
 // The command `check`.
@@ -399,6 +541,34 @@ fn checkpoint_command<'a>(alloc: Global) -> Result<Command<'a>, Error>
     Ok(checkpoint)
 }
 
+// The two files that have to be named.
+fn a_argument<'a>(alloc: Global) -> Arg<'a>
+    ensures { IsOption (wanted_place (codes "a")) result }
+{
+    wanted_place(alloc, A, "A", "A log or a saved store")
+}
+
+fn b_argument<'a>(alloc: Global) -> Arg<'a>
+    ensures { IsOption (wanted_place (codes "b")) result }
+{
+    wanted_place(alloc, B, "B", "Another one")
+}
+
+// The command `diff`.
+fn diff_command<'a>(alloc: Global) -> Result<Command<'a>, Error>
+    ensures declared { IfOk result (IsDeclared diff_shape) }
+    ensures refused { IfErr result (λ e. kind_of e ≡ OutOfMemory) }
+{
+    let json = flag(alloc, JSON, "Writes an object of JSON");
+    let diff = Command::new(alloc, "diff")
+        .about("Tells in what the stores of two logs or saved stores differ")
+        .after_help(DIFF_HELP)
+        .arg(a_argument(alloc))?
+        .arg(b_argument(alloc))?
+        .arg(json)?;
+    Ok(diff)
+}
+
 // The program's commands.
 fn command<'a>(alloc: Global) -> Result<Command<'a>, Error>
     ensures declared { IfOk result (λ c. app_of c ≡ program) }
@@ -411,8 +581,10 @@ fn command<'a>(alloc: Global) -> Result<Command<'a>, Error>
         .subcommand(run_command(alloc)?)?
         .subcommand(serve_command(alloc)?)?
         .subcommand(writers_command(alloc)?)?
+        .subcommand(save_command(alloc)?)?
         .subcommand(check_command(alloc)?)?
-        .subcommand(checkpoint_command(alloc)?)?;
+        .subcommand(checkpoint_command(alloc)?)?
+        .subcommand(diff_command(alloc)?)?;
     Ok(program)
 }
 
@@ -468,6 +640,13 @@ fn job_options(words: &ArgMatches<'_>) -> Option<JobOptions>
     })
 }
 
+// How far a log grows before it is made short.
+fn times(words: &ArgMatches<'_>) -> u32
+    ensures { IsTimesOf (rows_of (found_of words.now)) result }
+{
+    words.get_one::<u32>(TIMES).unwrap_or(DEFAULT_TIMES)
+}
+
 // The task, where the words have one; those that clap has let through do.
 fn chosen<'a>(matches: &'a ArgMatches<'_>) -> Option<Task<'a>>
     ensures asked { IsAsked (subcommand_rows_of matches.now) result }
@@ -481,10 +660,19 @@ fn chosen<'a>(matches: &'a ArgMatches<'_>) -> Option<Task<'a>>
         "serve" => Some(Task::Serve {
             log: own.get_str(LOG),
             rebases: is_given(REBASE, own),
+            times: times(own),
         }),
         "writers" => {
             let options = job_options(own)?;
             Some(Task::Writers { options })
+        }
+        "save" => {
+            let file = own.get_str(FILE)?;
+            let wanted = Wanted {
+                root: own.get_str(ROOT),
+                namespace: own.get_str(NAMESPACE),
+            };
+            Some(Task::Save { file, wanted })
         }
         "check" => {
             let file = own.get_str(FILE)?;
@@ -496,6 +684,15 @@ fn chosen<'a>(matches: &'a ArgMatches<'_>) -> Option<Task<'a>>
         "checkpoint" => {
             let file = own.get_str(FILE)?;
             Some(Task::Checkpoint { file })
+        }
+        "diff" => {
+            let a = own.get_str(A)?;
+            let b = own.get_str(B)?;
+            Some(Task::Diff {
+                a,
+                b,
+                json: is_given(JSON, own),
+            })
         }
         _ => None,
     }
@@ -521,13 +718,21 @@ fn done<T: Threads + Wait + Sync + Eprint + AllocGlobal, R: Read, W: Write>(
             Task::Serve {
                 log: Some(path),
                 rebases,
+                times,
             },
-        ) => log_status(rt, serve_file(files, path, rebases, input, output)),
+        ) => log_status(
+            rt,
+            serve_file(files, path, rebases, times as u64, input, output),
+        ),
         Some(Task::Writers { options }) => {
             status(rt, jobs_from(rt, alloc, input, output, options))
         }
+        Some(Task::Save { file, wanted }) => log_status(rt, save_file(files, file, wanted, output)),
         Some(Task::Check { file, json }) => log_status(rt, check_file(files, file, json, output)),
         Some(Task::Checkpoint { file }) => log_status(rt, checkpoint_file(files, file)),
+        Some(Task::Diff { a, b, json }) => {
+            diff_status(rt, diff_files(files, a, b, json, output))
+        }
         None => {
             let _ = rt.eprintln("error: no command");
             BAD_WORDS

@@ -1,6 +1,6 @@
 use Rattle.std.proofs.Common.{◌≡◌, true, false, sym, ap, ◌∙◌}
 use Rattle.snap_log.specs.Texts.{is_line}
-use Rattle.snap_durable.proofs.LoggedLaws.{mark_line}
+use Rattle.snap_durable.proofs.SoundLaws.{mark_line}
 use Rattle.snap_durable.proofs.logged.rebased_line.Goals as goal
 
 pub unreachable-requires : goal.unreachable-requires

@@ -1,10 +1,3 @@
-use Rattle.std.proofs.Common.{◌≡◌, ℕ, ◌<◌, Bool, true, false, List, [], length, Option, None, Some, IfSome, refl, sym, ap, ◌∙◌, subst}
-use Rattle.snap_log.specs.Log.{IsHonest, text_in}
-use Rattle.snap_log.specs.Texts.{log_text}
-use Rattle.snap_log.proofs.LogLaws.{log_keeps}
-use Rattle.snap_pair.specs.Pair.{ArePairHonest, joined, lines_in}
-use Rattle.snap_durable.specs.Logged.{LeavesLog}
-use Rattle.snap_durable.specs.Pairs.{counting_file, file_by}
 use Rattle.snap_durable.proofs.PairServeLaws.{leaves_pair, refused_pair, served_pair}
 use Rattle.snap_durable.proofs.pair.serve_pair.Goals as goal
 

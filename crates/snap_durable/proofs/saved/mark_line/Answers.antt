@@ -1,4 +1,4 @@
-use Rattle.std.proofs.Common.{◌≡◌, ℕ, List, [], true, false, sym, ap, ◌∙◌}
+use Rattle.std.proofs.Common.{◌≡◌, [], true, false, sym, ap, ◌∙◌}
 use Rattle.snap_log.specs.Texts.{is_line}
 use Rattle.snap_durable.proofs.SavedLaws.{mark_line}
 use Rattle.snap_durable.proofs.saved.mark_line.Goals as goal

@@ -1,5 +1,5 @@
-use Rattle.std.proofs.Common.{◌≡◌, sym, ap, subst, ◌∙◌}
-use Rattle.snap_pair.specs.Pair.{PairKeeps, joined, lines_in}
+use Rattle.std.proofs.Common.{◌≡◌, ap, subst, ◌∙◌}
+use Rattle.snap_pair.specs.Pair.{PairKeeps, lines_in}
 use Rattle.snap_pair.proofs.PairLaws.{pair_keeps}
 use Rattle.snap_durable.proofs.HalfLaws.{joined_lines}
 use Rattle.snap_durable.proofs.shorten.replay_pair.Goals as goal
