@@ -58,11 +58,7 @@ impl Bench {
             "commit" => {
                 let layer = std::mem::replace(self.uppers.first_mut()?, Layer::empty());
                 let below = self.lowers.take();
-                self.lowers = Some(Rc::new(Lower {
-                    id: 0,
-                    layer,
-                    below,
-                }));
+                self.lowers = Some(Rc::new(Lower::new(0, layer, below)));
             }
             "uppers" => {
                 let count: usize = rest.parse().ok()?;
@@ -105,7 +101,7 @@ fn apply(uppers: &mut [Layer], lowers: &Lowers, operations: &[Operation]) -> Str
 }
 
 fn path(text: &str) -> Option<Path<'static>> {
-    Path::parse(text.to_owned())
+    Path::parse(text.as_bytes().to_vec().into())
 }
 
 fn operation(word: &str, rest: &str) -> Option<Operation<'static>> {
@@ -122,7 +118,7 @@ fn operation(word: &str, rest: &str) -> Option<Operation<'static>> {
         "unlink" => Operation::Unlink { path },
         "rename" => Operation::Rename {
             from: path,
-            to: Path::parse(second.to_owned())?,
+            to: self::path(second)?,
         },
         _ => return None,
     })

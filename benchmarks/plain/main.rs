@@ -4,7 +4,8 @@
 //! `plain layers` carries out lists of lookups and edits (`edits.rs`), and `plain script` the lines of a script
 //! that the benchmark uses (`script.rs`). Both read standard input. Of a list each answer is out before the next line
 //! is read; of a script all answers are out before the program waits for more input, as the product does it. It has no
-//! symlinks, hard links, views or sessions, and no lease ends by time.
+//! symlinks, hard links, views, sessions or sealed snapshots, no changes of the root, no rename onto what is seen, and
+//! no lease ends by time; a change whose charge is refused stays. Other lines get the product's answers, refusals too.
 
 mod edits;
 mod json;

@@ -1,41 +1,99 @@
 //! The lines of a script: a JSON object a line, and an answer a line.
 
-use crate::json::{Value, Writer, members};
-use crate::layer::{FsError, Path, Seen, Usage, list, look};
+use crate::json::{Reader, Value, Writer};
+use crate::layer::{FsError, Path, Seen, Usage, error_at, list, look};
 use crate::operation::Operation;
-use crate::store::{Call, Content, Refused, Reply, Store};
+use crate::store::{Call, Refused, Reply, Store};
+use std::borrow::Cow;
+use std::collections::BTreeMap;
 use std::error::Error;
 use std::io::{self, BufRead, BufReader, Read, Write};
 
 /// The bytes that are read at once, and as many written, but for a longer answer.
 const BUFFER_BYTES: usize = 1 << 16;
+const MAX_LINE_BYTES: usize = 1 << 24;
 
+/// Lines are read where the input's buffer has them, but for one that two reads bring. Before it waits for more, it
+/// writes all answers so far.
 pub fn run(input: impl Read) -> Result<(), Box<dyn Error>> {
     let mut input = BufReader::with_capacity(BUFFER_BYTES, input);
-    let mut output = io::stdout().lock();
-    let mut answers = Writer(Vec::with_capacity(2 * BUFFER_BYTES));
-    let mut line = Vec::new();
-    let mut store = None;
+    let mut script = Script {
+        store: None,
+        answers: Writer(Vec::with_capacity(2 * BUFFER_BYTES)),
+    };
+    // What has come of a line that has not ended.
+    let mut begun = Vec::new();
     loop {
-        // Before it waits for input, it writes all answers so far.
-        if answers.0.len() >= BUFFER_BYTES || !input.buffer().contains(&b'\n') {
-            output.write_all(&answers.0)?;
-            output.flush()?;
-            answers.0.clear();
+        let read = input.fill_buf()?;
+        let count = read.len();
+        if count == 0 {
+            return (begun.is_empty() && script.store.is_some())
+                .then_some(())
+                .ok_or("the input ends too early".into());
         }
-        line.clear();
-        if input.read_until(b'\n', &mut line)? == 0 {
-            return store.map(drop).ok_or("no line".into());
+        let mut rest = read;
+        if read.contains(&b'\n') {
+            let end = read.iter().rposition(|byte| *byte == b'\n').unwrap_or(0) + 1;
+            let mut lines = &read[..end];
+            if !begun.is_empty() {
+                begun.extend_from_slice(lines);
+                lines = &begun;
+            }
+            script.answer_all(lines)?;
+            begun.clear();
+            rest = &read[end..];
         }
-        let fields = Fields::of(str::from_utf8(&line)?).ok_or("no such line")?;
-        match &mut store {
-            Some(store) => answer(store, &fields, &mut answers).ok_or("no such line")?,
-            None => {
-                store = Some(open(&fields).ok_or("the first line is no `open`")?);
-                answers.reply(&Reply::Done);
+        begun.extend_from_slice(rest);
+        if begun.len() > MAX_LINE_BYTES {
+            return Err("a line is too long".into());
+        }
+        input.consume(count);
+    }
+}
+
+struct Script {
+    store: Option<Store>,
+    answers: Writer,
+}
+
+impl Script {
+    fn answer_all(&mut self, lines: &[u8]) -> Result<(), Box<dyn Error>> {
+        let mut reader = Reader::new(str::from_utf8(lines)?.as_bytes());
+        while !reader.is_at_end() {
+            if !reader.ends_line() {
+                if self.answer(&mut reader).is_none() {
+                    self.write()?;
+                    return Err("no such line".into());
+                }
+                self.answers.0.push(b'\n');
+            }
+            if self.answers.0.len() >= BUFFER_BYTES {
+                self.write()?;
             }
         }
-        answers.0.push(b'\n');
+        self.write()
+    }
+
+    fn write(&mut self) -> Result<(), Box<dyn Error>> {
+        let mut output = io::stdout().lock();
+        output.write_all(&self.answers.0)?;
+        output.flush()?;
+        self.answers.0.clear();
+        Ok(())
+    }
+
+    /// Carries the line out and writes its answer. There is none where it is no line.
+    fn answer(&mut self, reader: &mut Reader) -> Option<()> {
+        let mut fields = Fields::default();
+        fields.read(reader)?;
+        match &mut self.store {
+            Some(store) => answer(store, &fields, &mut self.answers),
+            None => {
+                self.store = Some(open(&fields)?);
+                self.answers.reply(&Reply::Done);
+                Some(())
+            }
+        }
     }
 }
 
@@ -48,7 +106,7 @@ macro_rules! fields {
         }
 
         impl<'a> Fields<'a> {
-            fn place(&mut self, name: &str) -> Option<&mut Option<Value<'a>>> {
+            fn place(&mut self, name: &[u8]) -> Option<&mut Option<Value<'a>>> {
                 match name {
                     $($name => Some(&mut self.$field),)*
                     _ => None,
@@ -59,293 +117,281 @@ macro_rules! fields {
 }
 
 fields! {
-    verb "do", ns "ns", key "key", parent "parent", name "name", after "after", lease "lease", path "path",
-    from "from", to "to", text "text", fill "fill", offset "offset", size "size", mode "mode", need "need",
-    labels "labels", blocks "blocks", inodes "inodes", namespaces "namespaces"
+    verb b"do", ns b"ns", key b"key", parent b"parent", name b"name", after b"after", lease b"lease", path b"path",
+    from b"from", to b"to", text b"text", fill b"fill", offset b"offset", size b"size", mode b"mode", need b"need",
+    labels b"labels", blocks b"blocks", inodes b"inodes", namespaces b"namespaces"
 }
 
 impl<'a> Fields<'a> {
-    fn of(line: &'a str) -> Option<Fields<'a>> {
-        let mut fields = Fields::default();
-        members(line, &mut fields, Fields::place)?;
-        Some(fields)
+    /// Reads those of a line. The other members are tested and not kept.
+    fn read(&mut self, line: &mut Reader<'a>) -> Option<()> {
+        let mut goes_on = line.begins(b'{', b'}')?;
+        while goes_on {
+            match self.place(&line.name()?.bytes()) {
+                Some(place) => *place = Some(line.value()?),
+                None => line.skip()?,
+            }
+            goes_on = line.goes_on(b'}')?;
+        }
+        line.ends_line().then_some(())
     }
 }
 
-fn text<'a>(field: &'a Option<Value>) -> Option<&'a str> {
-    field.as_ref()?.text()
+fn text<'a>(field: Option<Value<'a>>) -> Option<Cow<'a, [u8]>> {
+    field?.text()
 }
 
-fn owned(field: &Option<Value>) -> Option<Box<str>> {
-    text(field).map(Box::from)
+fn number(field: Option<Value>) -> Option<u64> {
+    field?.number()
 }
 
-fn number(field: &Option<Value>) -> Option<u64> {
-    field.as_ref()?.number()
+/// A number that may be left out.
+fn number_or(default: u64, field: Option<Value>) -> Option<u64> {
+    field.map_or(Some(default), Value::number)
 }
 
-fn path<'a>(field: &'a Option<Value>) -> Option<Path<'a>> {
+fn path(field: Option<Value>) -> Option<Path> {
     Path::parse(text(field)?)
 }
 
-fn usage(field: &Option<Value>) -> Option<Usage> {
-    let (blocks, inodes) = field.as_ref()?.pair()?;
+fn usage(field: Option<Value>) -> Option<Usage> {
+    let (blocks, inodes) = field?.pair()?;
     Some(Usage { blocks, inodes })
 }
 
 fn open(fields: &Fields) -> Option<Store> {
-    let elements = fields.namespaces.as_ref()?.elements()?;
-    let parts: Option<Vec<_>> = elements.iter().map(Value::elements).collect();
-    let mut limits = Vec::new();
-    for part in parts.as_ref()? {
-        let [
-            Value::Text(name),
-            Value::Number(blocks),
-            Value::Number(inodes),
-        ] = &part[..]
-        else {
+    let mut limits = BTreeMap::new();
+    for namespace in fields.namespaces?.elements()? {
+        let parts: Vec<_> = namespace.elements()?.collect();
+        let [name, blocks, inodes] = parts[..] else {
             return None;
         };
-        limits.push((
-            &**name,
-            Usage {
-                blocks: *blocks,
-                inodes: *inodes,
-            },
-        ));
+        let (blocks, inodes) = (blocks.number()?, inodes.number()?);
+        limits.insert(name.text()?.into(), Usage { blocks, inodes });
     }
-    Some(Store::open(limits.into_iter()))
+    Some(Store::open(limits))
 }
 
 /// Carries the line out and writes its answer. There is none where it is no line.
 fn answer(store: &mut Store, fields: &Fields, out: &mut Writer) -> Option<()> {
-    let command = text(&fields.verb)?;
-    if command == "report" {
+    let command = &*text(fields.verb)?;
+    if command == b"report" {
         store.report(out);
         return Some(());
     }
-    if command == "reopen" {
-        store.reopen();
-        out.reply(&Reply::Done);
-        return Some(());
-    }
-    let ns = text(&fields.ns)?;
-    if let Some(call) = call(command, fields) {
-        match store.call(ns, call) {
-            Ok(reply) => out.reply(reply),
-            Err(refused) => error(out, refused.name()),
+    if command == b"reopen" {
+        if store.reopen() {
+            out.reply(&Reply::Done);
+        } else {
+            out.raw(r#"{"error":"StillOut","from":"world"}"#);
         }
         return Some(());
     }
+    let ns = &*text(fields.ns)?;
+    if let Some(call) = call(command, fields) {
+        match store.call(ns, call) {
+            Ok(reply) => out.reply(reply),
+            Err(refused) => refusal(store, ns, refused, out),
+        }
+        return Some(());
+    }
+    if command == b"tree" {
+        if let Err(refused) = store.tree(ns, out) {
+            refusal(store, ns, refused, out);
+        }
+        return Some(());
+    }
+    let key = &*text(fields.key)?;
     let told = match command {
-        "tree" => store.tree(ns, out).map_err(Refused::name),
-        "look" => seen(store, fields, &path(&fields.path)?, out)?,
-        "list" | "resolve" => shown(store, fields, command, &path(&fields.path)?, out)?,
-        _ => operate(store, fields, &operation(command, fields)?, out)?,
+        b"look" => seen(store, ns, key, &path(fields.path)?, out),
+        b"list" => names(store, ns, key, &path(fields.path)?, out),
+        b"resolve" => resolved(store, ns, key, &path(fields.path)?, out),
+        _ => operate(store, ns, key, &operation(command, fields)?, out),
     };
-    if let Err(name) = told {
-        error(out, name);
+    match told {
+        Ok(()) => {}
+        Err(Failed::File(error)) => {
+            out.raw(r#"{"error":""#);
+            out.raw(error.name());
+            out.raw(r#"","from":"file"}"#);
+        }
+        Err(Failed::Refused(refused)) => refusal(store, ns, refused, out),
     }
     Some(())
 }
 
-fn error(out: &mut Writer, name: &str) {
+fn refusal(store: &Store, ns: &[u8], refused: Refused, out: &mut Writer) {
     out.raw(r#"{"error":""#);
-    out.raw(name);
-    out.raw(r#""}"#);
+    out.raw(&format!("{refused:?}"));
+    if refused == Refused::OverLimit
+        && let Ok(free) = store.free(ns)
+    {
+        out.raw(r#"","free":"#);
+        out.usage(free);
+        out.raw(r#","from":"book"}"#);
+    } else {
+        out.raw(r#"","from":"book"}"#);
+    }
 }
 
 /// The call that the line makes. There is none where it makes no entry, or where it is no line.
-fn call(command: &str, fields: &Fields) -> Option<Call> {
-    let key = || owned(&fields.key);
-    let lease = || owned(&fields.lease);
-    let name = || owned(&fields.name);
+fn call<'a>(command: &[u8], fields: &Fields<'a>) -> Option<Call<Cow<'a, [u8]>>> {
+    let key = || text(fields.key);
+    let lease = || text(fields.lease);
+    let name = || text(fields.name);
     Some(match command {
-        "prepare" => Call::Prepare {
-            key: key()?,
-            parent: owned(&fields.parent)?,
-        },
-        "commit" => Call::Commit {
-            key: key()?,
-            name: name()?,
-        },
-        "remove" => Call::Remove { key: key()? },
-        "stat" => Call::Stat { key: key()? },
-        "walk" => Call::Walk {
-            after: owned(&fields.after)?,
-        },
-        "charge" => Call::Charge {
-            key: key()?,
-            need: usage(&fields.need)?,
-        },
-        "usage" => Call::Usage { key: key()? },
-        "update" => {
-            let (label, value) = fields.labels.as_ref()?.first_member()?;
-            Call::Update {
-                key: key()?,
-                label: label.into(),
-                value: value.into(),
-            }
+        b"prepare" => Call::Prepare(key()?, text(fields.parent)?),
+        b"commit" => Call::Commit(key()?, name()?),
+        b"remove" => Call::Remove(key()?),
+        b"stat" => Call::Stat(key()?),
+        b"walk" => Call::Walk(text(fields.after)?),
+        b"charge" => Call::Charge(key()?, usage(fields.need)?),
+        b"usage" => Call::Usage(key()?),
+        b"update" => {
+            let members = fields.labels?.members()?;
+            let labels = members.map(|(label, value)| Some((label.bytes(), value.text()?)));
+            let mut labels: Vec<_> = labels.collect::<Option<_>>()?;
+            // Of equal labels the last counts.
+            labels.reverse();
+            labels.sort_by(|one, other| one.0.cmp(&other.0));
+            labels.dedup_by(|one, other| one.0 == other.0);
+            Call::Update(key()?, labels.into())
         }
-        "limit" => {
-            let (blocks, inodes) = (number(&fields.blocks)?, number(&fields.inodes)?);
-            Call::Limit {
-                limit: Usage { blocks, inodes },
-            }
+        b"limit" => {
+            let (blocks, inodes) = (number(fields.blocks)?, number(fields.inodes)?);
+            Call::Limit(Usage { blocks, inodes })
         }
-        "lease_create" => Call::LeaseCreate { lease: lease()? },
-        "lease_add" => Call::LeaseAdd {
-            lease: lease()?,
-            name: name()?,
-        },
-        "lease_release" => Call::LeaseRelease { lease: lease()? },
-        "sweep" => Call::Sweep,
+        b"lease_create" => Call::LeaseCreate(lease()?),
+        b"lease_add" => Call::LeaseAdd(lease()?, name()?),
+        b"lease_release" => Call::LeaseRelease(lease()?),
+        b"sweep" => Call::Sweep,
         _ => return None,
     })
 }
 
-fn operation<'a>(command: &str, fields: &'a Fields) -> Option<Operation<'a>> {
-    let path = || path(&fields.path);
-    let mode = |default| number(&fields.mode).map_or(default, |mode| mode as u32);
+fn operation<'a>(command: &[u8], fields: &Fields<'a>) -> Option<Operation<'a>> {
+    let path = || path(fields.path);
+    let mode = |default| Some(number_or(default, fields.mode)?.min(u32::MAX.into()) as u32);
+    let place = |number: u64| usize::try_from(number).ok();
     Some(match command {
-        "mkdir" => Operation::Mkdir {
+        b"mkdir" => Operation::Mkdir {
             path: path()?,
-            mode: mode(0o755),
+            mode: mode(0o755)?,
         },
-        "create" => Operation::Create {
+        b"create" => Operation::Create {
             path: path()?,
-            mode: mode(0o644),
+            mode: mode(0o644)?,
         },
-        "write" => Operation::WriteAt {
+        b"write" => Operation::WriteAt {
             path: path()?,
-            offset: number(&fields.offset).unwrap_or(0) as usize,
-            bytes: match text(&fields.text) {
-                Some(text) => text.as_bytes().into(),
+            offset: place(number_or(0, fields.offset)?)?,
+            bytes: match fields.text {
+                Some(text) => text.text()?,
                 None => {
-                    let (byte, count) = fields.fill.as_ref()?.pair()?;
-                    vec![u8::try_from(byte).ok()?; usize::try_from(count).ok()?].into()
+                    let (byte, count) = fields.fill?.pair()?;
+                    vec![u8::try_from(byte).ok()?; place(count)?].into()
                 }
             },
         },
-        "truncate" => Operation::Truncate {
+        b"truncate" => Operation::Truncate {
             path: path()?,
-            size: number(&fields.size)? as usize,
+            size: place(number(fields.size)?)?,
         },
-        "setmode" => Operation::SetMode {
+        b"setmode" => Operation::SetMode {
             path: path()?,
-            mode: mode(0o600),
+            mode: mode(number(fields.mode)?)?,
         },
-        "unlink" => Operation::Unlink { path: path()? },
-        "rename" => Operation::Rename {
-            from: self::path(&fields.from)?,
-            to: self::path(&fields.to)?,
+        b"unlink" => Operation::Unlink { path: path()? },
+        b"rename" => Operation::Rename {
+            from: self::path(fields.from)?,
+            to: self::path(fields.to)?,
         },
         _ => return None,
     })
 }
 
-/// What is told, or the name of a refusal. There is none where the line is no line.
-type Told = Option<Result<(), &'static str>>;
+/// Why a file command or a lookup is refused.
+enum Failed {
+    File(FsError),
+    Refused(Refused),
+}
+
+impl From<FsError> for Failed {
+    fn from(error: FsError) -> Failed {
+        Failed::File(error)
+    }
+}
+
+impl From<Refused> for Failed {
+    fn from(refused: Refused) -> Failed {
+        Failed::Refused(refused)
+    }
+}
+
+type Told = Result<(), Failed>;
 
 /// Carries the operation out, and charges what the layer then takes.
-fn operate(store: &mut Store, fields: &Fields, operation: &Operation, out: &mut Writer) -> Told {
-    let (ns, key) = (text(&fields.ns)?, text(&fields.key)?);
-    Some(changed(store, ns, key, operation).map(|(count, share)| {
-        out.raw(r#"{"count":"#);
-        out.usage(count);
-        out.raw(r#","share":"#);
-        out.usage(share);
-        out.raw("}");
-    }))
-}
-
-/// What the layer takes, and what is charged for it.
-fn changed(
+fn operate(
     store: &mut Store,
-    ns: &str,
-    key: &str,
+    ns: &[u8],
+    key: &[u8],
     operation: &Operation,
-) -> Result<(Usage, Usage), &'static str> {
-    let snapshot = store
-        .namespace(ns)
-        .and_then(|it| it.find_mut(key))
-        .map_err(Refused::name)?;
-    let Content::Active { upper, lowers, .. } = &mut snapshot.content else {
-        return Err(Refused::NotActive.name());
-    };
-    operation.apply(upper, lowers).map_err(FsError::name)?;
-    let (count, share) = (upper.usage(), snapshot.charge);
-    if count.blocks <= share.blocks && count.inodes <= share.inodes {
-        return Ok((count, share));
+    out: &mut Writer,
+) -> Told {
+    let snapshot = store.snapshot(ns, key)?;
+    let mut share = snapshot.charge;
+    let (upper, lowers) = snapshot.upper()?;
+    operation.apply(upper, lowers)?;
+    let count = upper.usage();
+    if !count.fits(share)
+        && let Reply::Share(more) = store.call(ns, Call::Charge(key, count))?
+    {
+        share = *more;
     }
-    match store.call(
-        ns,
-        Call::Charge {
-            key: key.into(),
-            need: count,
-        },
-    ) {
-        Ok(Reply::Share(share)) => Ok((count, *share)),
-        Ok(_) => unreachable!("a charge is answered by a share"),
-        Err(refused) => Err(refused.name()),
-    }
+    out.raw(r#"{"count":"#);
+    out.usage(count);
+    out.raw(r#","share":"#);
+    out.usage(share);
+    out.raw("}");
+    Ok(())
 }
 
-fn seen(store: &mut Store, fields: &Fields, path: &Path, out: &mut Writer) -> Told {
-    let (ns, key) = (text(&fields.ns)?, text(&fields.key)?);
-    let snapshot = match store.namespace(ns).and_then(|it| it.find_mut(key)) {
-        Ok(snapshot) => snapshot,
-        Err(refused) => return Some(Err(refused.name())),
-    };
-    let Content::Active { upper, lowers, .. } = &snapshot.content else {
-        return Some(Err(Refused::NotActive.name()));
-    };
+fn seen(store: &mut Store, ns: &[u8], key: &[u8], path: &Path, out: &mut Writer) -> Told {
+    let (upper, lowers) = store.snapshot(ns, key)?.upper()?;
     match look(upper, lowers, path) {
         None => out.raw(r#"{"seen":null}"#),
         Some(Seen::Dir { mode }) => {
             out.raw(r#"{"seen":{"dir":"#);
-            out.number(u64::from(mode));
+            out.number(mode);
             out.raw("}}");
         }
         Some(Seen::File { mode, size }) => {
             out.raw(r#"{"seen":{"file":"#);
-            out.number(u64::from(mode));
+            out.number(mode);
             out.raw(r#","size":"#);
             out.number(size as u64);
             out.raw("}}");
         }
     }
-    Some(Ok(()))
+    Ok(())
 }
 
-/// The names in a directory, or the path of what is seen there, since no layer has a symlink.
-fn shown(store: &mut Store, fields: &Fields, command: &str, path: &Path, out: &mut Writer) -> Told {
-    let (ns, key) = (text(&fields.ns)?, text(&fields.key)?);
-    let snapshot = match store.namespace(ns).and_then(|it| it.find_mut(key)) {
-        Ok(snapshot) => snapshot,
-        Err(refused) => return Some(Err(refused.name())),
-    };
-    let Content::Active { upper, lowers, .. } = &snapshot.content else {
-        return Some(Err(Refused::NotActive.name()));
-    };
-    if command == "resolve" {
-        return Some(
-            look(upper, lowers, path)
-                .ok_or(FsError::NotFound.name())
-                .map(|_| {
-                    out.raw(r#"{"path":"#);
-                    out.text(path.text());
-                    out.raw("}");
-                }),
-        );
-    }
-    Some(
-        list(upper, lowers, path)
-            .map_err(FsError::name)
-            .map(|names| {
-                out.raw(r#"{"names":"#);
-                out.list(names, |out, name| out.text(name));
-                out.raw("}");
-            }),
-    )
+/// The path of what is seen there, since no layer has a symlink.
+fn resolved(store: &mut Store, ns: &[u8], key: &[u8], path: &Path, out: &mut Writer) -> Told {
+    let (upper, lowers) = store.snapshot(ns, key)?.upper()?;
+    look(upper, lowers, path).ok_or_else(|| error_at(upper, lowers, path))?;
+    out.raw(r#"{"path":"#);
+    out.text(path.text());
+    out.raw("}");
+    Ok(())
+}
+
+/// The names in a directory.
+fn names(store: &mut Store, ns: &[u8], key: &[u8], path: &Path, out: &mut Writer) -> Told {
+    let (upper, lowers) = store.snapshot(ns, key)?.upper()?;
+    let names = list(upper, lowers, path)?;
+    out.raw(r#"{"names":"#);
+    out.list(names, |out, name| out.text(name));
+    out.raw("}");
+    Ok(())
 }

@@ -36,26 +36,16 @@ func (b *BadLog) Error() string {
 // The log of a store, which the store's process keeps and has alone. A nil one is none.
 type log struct {
 	path string
-	// By which room is held behind the lines.
-	file *os.File
+	// How many times as much as behind the last checkpoint it has at the next one, or 0 for none.
+	checkpoint uint64
+	// The file of the path, and the one named `-wal` beside it, which counts where it has a line.
+	files [2]part
 	reserve
 	marks marks
 }
 
-// LogBytes is how many bytes the store's log has, or 0 where it has none, or where a daemon has it.
-func (s *Store) LogBytes() uint64 {
-	if s.log == nil {
-		return 0
-	}
-	status, err := s.log.file.Stat()
-	if err != nil {
-		return 0
-	}
-	return uint64(status.Size())
-}
-
 // The log at a path, or nil where that is empty. Its file is made where the flags say so, and is its owner's alone then.
-func findLog(path string, flags int) (*log, error) {
+func findLog(path string, checkpoint uint64, flags int) (*log, error) {
 	if path == "" {
 		return nil, nil
 	}
@@ -66,7 +56,49 @@ func findLog(path string, flags int) (*log, error) {
 	if err != nil {
 		return nil, err
 	}
-	return &log{path: path, file: file}, nil
+	return &log{path: path, checkpoint: checkpoint, files: [2]part{{file: file}, {}}}, nil
+}
+
+// Opens the file beside it, which the process has made by its first answer.
+func (l *log) findSecond() error {
+	if l == nil {
+		return nil
+	}
+	l.mutex.Lock()
+	defer l.mutex.Unlock()
+	var err error
+	l.files[1].file, err = os.OpenFile(l.path+"-wal", os.O_RDWR, 0)
+	return err
+}
+
+// The file that counts.
+func (l *log) counting() *part {
+	if begins(l.files[1].file) {
+		return &l.files[1]
+	}
+	return &l.files[0]
+}
+
+// Whether a file of a log has a line: the process writes its brace last.
+func begins(file *os.File) bool {
+	var first [1]byte
+	_, err := file.ReadAt(first[:], 0)
+	return err == nil && first[0] == '{'
+}
+
+// CountingLog is the path of the file that counts of the log at a path: the one named `-wal` beside it where that has a
+// line. Which it is may change while a process has the log.
+func CountingLog(path string) string {
+	second := path + "-wal"
+	file, err := os.Open(second)
+	if err != nil {
+		return path
+	}
+	defer file.Close()
+	if begins(file) {
+		return second
+	}
+	return path
 }
 
 // The words of the process that keeps it.
@@ -74,7 +106,7 @@ func (l *log) words() []string {
 	if l == nil {
 		return []string{"serve"}
 	}
-	return []string{"serve", "--log=" + l.path}
+	return []string{"serve", "--log=" + l.path, fmt.Sprint("--checkpoint=", l.checkpoint)}
 }
 
 // The statuses of a process that has no log, or whose log failed: docs/SCRIPT.md.
@@ -131,7 +163,7 @@ func (l *log) firstLine() []byte {
 	if l == nil {
 		return nil
 	}
-	line, _ := bufio.NewReader(io.NewSectionReader(l.file, 0, math.MaxInt64)).ReadBytes('\n')
+	line, _ := bufio.NewReader(io.NewSectionReader(l.counting().file, 0, math.MaxInt64)).ReadBytes('\n')
 	if !bytes.HasPrefix(line, []byte("{")) {
 		return nil
 	}
@@ -173,7 +205,12 @@ func (s *Store) isOpen(ctx context.Context) (bool, error) {
 }
 
 func (l *log) close() {
-	if l != nil {
-		l.file.Close()
+	if l == nil {
+		return
+	}
+	l.mutex.Lock()
+	defer l.mutex.Unlock()
+	for _, it := range []*part{&l.files[0], &l.files[1], &l.spare} {
+		it.file.Close()
 	}
 }

@@ -431,8 +431,13 @@ func TestSyncedTogether(t *testing.T) {
 // A folder on a disk of its own, and what fills and empties it.
 func smallDisk(t *testing.T) (folder string, fill, empty func()) {
 	t.Helper()
+	return diskOf(t, "1m")
+}
+
+func diskOf(t *testing.T, size string) (folder string, fill, empty func()) {
+	t.Helper()
 	folder = t.TempDir()
-	if err := syscall.Mount("tmpfs", folder, "tmpfs", 0, "size=1m"); err != nil {
+	if err := syscall.Mount("tmpfs", folder, "tmpfs", 0, "size="+size); err != nil {
 		t.Skip("mount: ", err)
 	}
 	t.Cleanup(func() { syscall.Unmount(folder, 0) })
@@ -645,5 +650,7 @@ func TestLogAppends(t *testing.T) {
 	file, err := os.Open(path + "-left")
 	granted(t, err)
 	defer file.Close()
-	equal(t, must[uint64](t)(new(marks).count(file)), uint64(5))
+	appends, bytes, err := new(marks).count(func() *part { return &part{file: file} })
+	granted(t, err)
+	equal(t, []uint64{appends, uint64(bytes)}, []uint64{5, uint64(len(left))})
 }

@@ -126,7 +126,7 @@ func (c Config) otherThanSocket() string {
 	}{
 		{"Program", c.Program != ""}, {"Root", c.Root != ""}, {"Namespaces", c.Namespaces != nil}, {"Journal", c.Journal != 0},
 		{"Slots", c.Slots != 0}, {"LayerInodes", c.LayerInodes != 0}, {"Ancestors", c.Ancestors != 0},
-		{"Log", c.Log != ""},
+		{"Log", c.Log != ""}, {"Checkpoint", c.Checkpoint != 0},
 	} {
 		if it.isGiven {
 			return it.name

@@ -3,12 +3,18 @@ package pibroulez
 import (
 	"errors"
 	"io/fs"
+	"os"
+	"path/filepath"
 	"sync"
 	"syscall"
 )
 
-// How many bytes of the disk a log holds beyond its end (fallocate(2)), so that a full disk still takes the lines of
-// calls that free something. Neither the file's size nor its bytes change by it.
+// How many bytes of the disk the file that counts of a log holds beyond its end (fallocate(2)), so that a full disk still
+// takes the lines of calls that free something. Neither the file's size nor its bytes change by it.
+//
+// A log that is made short holds as many in a file without a name. Where the lines of a checkpoint have filled the disk, the
+// file that comes to count has no reserve, and is given these. What the other one holds stays for the lines that come to it
+// next: nobody else may cut a file into which the process writes.
 const reserveSize = 256 << 10
 
 // The most bytes that a line takes in the log beside those that it is given here: its id, the mark of its part, which has
@@ -45,11 +51,21 @@ var mayUseReserve = map[string]bool{
 // The part of the disk that a log has.
 type reserve struct {
 	mutex sync.Mutex
-	// How many bytes the file has, where its part of the disk ends, and how many bytes are in lines that were sent and
-	// aren't answered yet.
-	size, end, coming int64
-	// Whether the file system reserves nothing. A line for which there is no room is then refused by the process.
-	isNone bool
+	// How many bytes are in lines that were sent and aren't answered yet.
+	coming int64
+	// The file without a name, where there is one.
+	spare part
+	// The file that counted when last seen.
+	counted *part
+	// Whether the file system reserves nothing, or has no file without a name. A line for which there is no room is then
+	// refused by the process.
+	isNone, hasNoSpare bool
+}
+
+// A file, and where its part of the disk ends.
+type part struct {
+	file *os.File
+	end  int64
 }
 
 // Has the reserve behind the lines, where the disk has room for it.
@@ -70,9 +86,13 @@ func (l *log) admit(c *call) error {
 	}
 	l.mutex.Lock()
 	defer l.mutex.Unlock()
+	l.follow()
 	bytes := c.room()
-	if err := l.extend(l.coming + bytes + reserveSize); err != nil && !mayUseReserve[c.do] {
-		return &fs.PathError{Op: "extend log", Path: l.path, Err: err}
+	if err := l.extend(l.coming + bytes + reserveSize); err != nil {
+		if !mayUseReserve[c.do] {
+			return &fs.PathError{Op: "extend log", Path: l.path, Err: err}
+		}
+		l.spend(l.coming + bytes)
 	}
 	l.coming += bytes
 	return nil
@@ -91,55 +111,115 @@ func (l *log) release(c *call) {
 	l.coming -= c.room()
 }
 
-// Has this number of bytes of the disk behind the lines, and twice the reserve more where there is that much; where
-// there is less than the former, what there is.
+// Whether a call that the log couldn't keep is made once more: one that may use the reserve, since another file may have
+// come to count after it was sent.
+func (l *log) mayKeepNext(c call) bool { return l != nil && l.checkpoint > 0 && mayUseReserve[c.do] }
+
+// Finds whether another file counts than when last seen.
+func (l *log) follow() {
+	counting := l.counting()
+	if l.counted != nil && l.counted != counting {
+		l.marks.leave(l.counted.file, counting.file)
+	}
+	l.counted = counting
+}
+
+// Has this number of bytes of the disk behind the lines, and as many in the file without a name.
 func (l *log) extend(bytes int64) error {
 	if l.isNone {
 		return nil
 	}
-	status, err := l.file.Stat()
+	err := l.counting().extend(bytes)
+	l.isNone = err != nil && !isFull(err)
+	if err != nil || l.checkpoint == 0 || l.hasNoSpare {
+		return full(err)
+	}
+	if l.spare.file == nil {
+		l.spare.file, err = unnamedFile(filepath.Dir(l.path))
+	}
+	if err == nil {
+		err = l.spare.extend(bytes)
+	}
+	l.hasNoSpare = err != nil && !isFull(err)
+	return full(err)
+}
+
+// Gives the file that counts what the one without a name holds, where it has less than this number of bytes.
+func (l *log) spend(bytes int64) {
+	if counting := l.counting(); l.spare.file != nil && counting.room() < bytes {
+		l.spare.file.Close()
+		l.spare = part{}
+		_ = counting.extend(bytes + reserveSize)
+	}
+}
+
+// A file of a folder's disk that has no name, and so is gone with the process.
+func unnamedFile(folder string) (*os.File, error) {
+	const withoutName = 0x400000 | syscall.O_DIRECTORY
+	return os.OpenFile(folder, os.O_RDWR|withoutName, 0o600)
+}
+
+// How many bytes of the disk it has beyond its end.
+func (p *part) room() int64 {
+	status, err := p.file.Stat()
+	if err != nil {
+		return 0
+	}
+	return p.end - status.Size()
+}
+
+// Has this number of bytes of the disk beyond its end, and twice the reserve more where there is that much; where there
+// is less than the former, what there is.
+func (p *part) extend(bytes int64) error {
+	status, err := p.file.Stat()
 	if err != nil {
 		// The store has ended, which the call is told.
 		return nil
 	}
-	if l.size = status.Size(); l.size+bytes <= l.end {
+	size := status.Size()
+	if size+bytes <= p.end {
 		return nil
 	}
-	err = l.allocate(bytes + 2*reserveSize)
+	err = p.allocate(size, bytes+2*reserveSize)
 	if isFull(err) {
-		err = l.allocate(bytes)
+		err = p.allocate(size, bytes)
 	}
-	for part := bytes / 2; isFull(err) && l.size+part > l.end; part /= 2 {
-		if !isFull(l.allocate(part)) {
+	for some := bytes / 2; isFull(err) && size+some > p.end; some /= 2 {
+		if !isFull(p.allocate(size, some)) {
 			break
 		}
 	}
-	if isFull(err) {
-		return err
-	}
-	l.isNone = err != nil
-	return nil
+	return err
 }
 
 func isFull(err error) bool { return errors.Is(err, syscall.ENOSPC) || errors.Is(err, syscall.EDQUOT) }
 
-func (l *log) allocate(bytes int64) error {
+// An error where it is that of a full disk.
+func full(err error) error {
+	if isFull(err) {
+		return err
+	}
+	return nil
+}
+
+// Has these bytes of the disk behind a file of this size.
+func (p *part) allocate(size, bytes int64) error {
 	const keepSize = 1
-	connection, err := l.file.SyscallConn()
+	connection, err := p.file.SyscallConn()
 	if err != nil {
 		return err
 	}
 	failed := syscall.EINTR
 	err = connection.Control(func(descriptor uintptr) {
 		for failed == syscall.EINTR {
-			failed, _ = syscall.Fallocate(int(descriptor), keepSize, l.size, bytes).(syscall.Errno)
+			failed, _ = syscall.Fallocate(int(descriptor), keepSize, size, bytes).(syscall.Errno)
 		}
 	})
 	if err == nil && failed != 0 {
 		err = failed
 	}
 	if err == nil {
-		l.end = l.size + bytes
+		p.end = size + bytes
 	}
 	return err
 }

@@ -67,13 +67,18 @@ func (s *Store) beginInTurn(ctx context.Context, do string, journal uint64) erro
 	return err
 }
 
-// The answer to a call. Where the journal is full for it and is to be rolled then, it is made once more after that.
+// The answer to a call. Where the journal is full for it and is to be rolled then, it is made once more after that, and so is
+// one that the log couldn't keep and may keep now.
 func (s *Store) answerTo(ctx context.Context, c call) ([]byte, error) {
-	for rolled := false; ; {
+	for rolled, again := false, false; ; {
 		begun := s.rounds.begun.Load()
 		text, err := s.exchange(ctx, c)
 		if err == nil {
 			err = refused(text)
+		}
+		if !again && errors.Is(err, ErrNotKept) && s.log.mayKeepNext(c) {
+			again = true
+			continue
 		}
 		if rolled || !errors.Is(err, ErrJournalFull) || !s.rounds.whenFull.Load() || isOfNextRound[c.do] {
 			return text, err

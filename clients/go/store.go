@@ -49,8 +49,13 @@ type Config struct {
 	// Ancestors is the most committed ancestors of a snapshot: 1 to 500, or 64 where it is 0.
 	Ancestors uint64
 	// Log is the path of a file in which the process keeps the calls, or empty for none. For New it must have no store yet.
-	// An empty file of this name and `-wal` more is made beside it.
+	// A file of this name and `-wal` more is made beside it.
 	Log string
+	// Checkpoint says when the process makes the log short: where it has grown to so many times what it had behind the last
+	// checkpoint, of at least 1 MiB, or never where it is 0; with 1 it does all the time. The next round of the journal begins
+	// by itself then, as by Roll to as many entries, at any moment: the entries of the round before are gone, and so are its
+	// sessions, so that a call in another session than 0 is ErrNoSession until Session has opened it anew.
+	Checkpoint uint64
 	// Socket is the path at which a daemon has a store that it shares, or empty for a store of this client's own. No other
 	// field is given with it: the daemon has opened the store, keeps its log and begins its rounds.
 	Socket string
@@ -143,13 +148,14 @@ func (c Config) fields() fields {
 	return given
 }
 
-// Open starts the process, and opens the store again that a log tells. The store goes on with the log.
+// Open starts the process, and opens the store again that a log tells. The store goes on with the log, and doesn't make it
+// short: OpenOrNew does.
 //
 // The error is fs.ErrNotExist where there is no log, or none with a line, a *BadLog where the file is no log, and
 // syscall.EWOULDBLOCK where another process has the log: also the one of a client that was killed, until it has seen the
 // end of its input. With an error a file that has text is as it was. The cost is that of all calls in the log.
 func Open(ctx context.Context, program, path string) (*Store, error) {
-	return begin(ctx, program, path, 0, func(store *Store, has bool) error {
+	return begin(ctx, program, path, 0, 0, func(store *Store, has bool) error {
 		if has {
 			return nil
 		}
@@ -161,7 +167,7 @@ func Open(ctx context.Context, program, path string) (*Store, error) {
 }
 
 // OpenOrNew opens the store again that the configuration's log tells, as Open does. Where there is no log, or none with a
-// line, it opens a store as New does; all of the configuration but Program and Log is of such a store alone. With
+// line, it opens a store as New does; all of the configuration but Program, Log and Checkpoint is of such a store alone. With
 // Config.Socket it is New.
 func OpenOrNew(ctx context.Context, config Config) (*Store, error) {
 	return config.begin(ctx, func(store *Store, has bool) error {
@@ -177,13 +183,15 @@ func (c Config) begin(ctx context.Context, first func(store *Store, has bool) er
 	if c.Socket != "" {
 		return connect(ctx, c)
 	}
-	return begin(ctx, c.Program, c.Log, os.O_CREATE, first)
+	return begin(ctx, c.Program, c.Log, c.Checkpoint, os.O_CREATE, first)
 }
 
 // Starts the process over a log, if one is named, and does what is to be done with it first, which is told whether there
 // is a store.
-func begin(ctx context.Context, program, path string, flags int, first func(store *Store, has bool) error) (*Store, error) {
-	lines, err := findLog(path, flags)
+func begin(
+	ctx context.Context, program, path string, checkpoint uint64, flags int, first func(store *Store, has bool) error,
+) (*Store, error) {
+	lines, err := findLog(path, checkpoint, flags)
 	if err != nil {
 		return nil, err
 	}
@@ -195,6 +203,9 @@ func begin(ctx context.Context, program, path string, flags int, first func(stor
 	store := storeOf(process, lines)
 	store.run(input, output)
 	has, err := store.hasStore(ctx)
+	if err == nil {
+		err = lines.findSecond()
+	}
 	if err == nil {
 		err = first(store, has)
 	}

@@ -47,6 +47,30 @@ class Logs(unittest.TestCase):
     def reopen(self) -> Store:
         return Store.from_log(self.log, program=PROGRAM)
 
+    def test_checkpoints(self) -> None:
+        """The file that counts changes, and the store has what it had, also where it is opened again in either."""
+        beside = self.log.with_name("log-wal")
+        open_store(1000, log=self.log, journal=1000).close()
+        for opened in range(4):
+            store = Store.from_log(self.log, program=PROGRAM, checkpoint=1)
+            store.prepare("a", f"k{opened}", "")
+            store.create("a", f"k{opened}", "/f")
+            for number in itertools.count():
+                store.write("a", f"k{opened}", "/f", text="x" * 100_000)
+                if beside.read_bytes()[:1] == (b"{", b"\0")[opened % 2]:
+                    break
+                self.assertLess(number, 100)
+            self.assertEqual(store.report().records, opened + 1)
+            store.close()
+            store = Store.open_or_new("/r", {}, log=self.log, program=PROGRAM)
+            store.close()
+            with self.assertRaises(FileExistsError):
+                open_store(log=self.log)
+        self.assertLess(self.log.stat().st_size + beside.stat().st_size, 4 << 20)
+        with Store.from_log(self.log, program=PROGRAM, roll_when_full=True) as store:
+            for _ in range(1001):
+                store.stat("a", "k0", entry=True)
+
     def fill(self, store: Store) -> None:
         """A few snapshots, refusals and questions. The last line of the log is the last prepare."""
         store.prepare("a", "k", "", labels={"x": "1"})

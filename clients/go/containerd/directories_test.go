@@ -289,7 +289,9 @@ func TestFlippedBits(t *testing.T) {
 		granted(t, os.WriteFile(path, changed, 0o600))
 	}
 	// What has no lines that can be read is refused still.
-	rebase := func() error { return exec.Command(program(), "serve", "--log", path, "--rebase").Run() }
+	rebase := func() error {
+		return exec.Command(program(), "serve", "--log", path, "--rebase", "--checkpoint", "0").Run()
+	}
 	// The parent `bare` becomes `base`.
 	flip(strings.Index(string(text), "bare")+2, 1)
 	if _, err := New(ctx, Config{Program: program(), Root: root}); !errors.As(err, new(*pibroulez.BadLog)) {

@@ -6,6 +6,7 @@ import (
 	"fmt"
 	"os"
 	"path/filepath"
+	"strings"
 	"testing"
 
 	"github.com/containerd/containerd/snapshots"
@@ -125,4 +126,42 @@ func onStore(t *testing.T, root string, do func(store *pibroulez.Store)) {
 	granted(t, err)
 	do(store)
 	granted(t, store.Close())
+}
+
+// A snapshotter's log is made short, also where it has no `format` and a crash has left the beginning of a checkpoint.
+func TestShortLog(t *testing.T) {
+	root := t.TempDir()
+	path := filepath.Join(root, LogFile)
+	config := Config{Program: program(), Root: root, Checkpoint: 1}
+	s, err := New(ctx, config)
+	granted(t, err)
+	commit(t, s, "base", "")
+	_, err = s.Prepare(ctx, "k", "base")
+	granted(t, err)
+	label := map[string]string{"x": strings.Repeat("x", 4000)}
+	for n := 0; pibroulez.CountingLog(path) == path; n++ {
+		_, err := s.Update(ctx, snapshots.Info{Name: "k", Labels: label})
+		granted(t, err)
+		if n == 1000 {
+			t.Fatal("the log isn't made short")
+		}
+	}
+	info, err := s.Stat(ctx, "k")
+	granted(t, err)
+	granted(t, s.Close())
+	file, err := os.OpenFile(path, os.O_WRONLY, 0)
+	granted(t, err)
+	_, err = file.WriteAt([]byte{0}, 0)
+	granted(t, err)
+	granted(t, file.Close())
+	granted(t, os.Remove(filepath.Join(root, formatFile)))
+	s, err = New(ctx, config)
+	granted(t, err)
+	defer s.Close()
+	found, err := s.Stat(ctx, "k")
+	granted(t, err)
+	if found.Labels["x"] != label["x"] || !found.Created.Equal(info.Created) {
+		t.Errorf("%+v, not %+v", found, info)
+	}
+	granted(t, s.Commit(ctx, "top", "k"))
 }

@@ -62,6 +62,8 @@ type Config struct {
 	// cluster for it, or is nil where the call is made as it is. The call may be made again where it was
 	// pibroulez.ErrOverLimit.
 	Charge func(ctx context.Context, namespace string, more pibroulez.Usage, call func(context.Context) error) error
+	// Checkpoint is that of pibroulez.Config, of a store of the snapshotter's own.
+	Checkpoint uint64
 	// The most entries of each round of the journal, or the store's default where it is 0.
 	journal uint64
 }
@@ -190,6 +192,9 @@ func openAged(ctx context.Context, program, root string, age rootAge, open func(
 
 // Whether a log that a client may have kept has lost its beginning. The process would take it for a new one.
 func isZeroed(path string) bool {
+	if pibroulez.CountingLog(path) != path {
+		return false
+	}
 	file, err := os.Open(path)
 	if err != nil {
 		return false
@@ -214,6 +219,7 @@ func (c Config) ofStore(root, log string) pibroulez.Config {
 		Ancestors:   mostAncestors,
 		Journal:     c.journal,
 		Log:         log,
+		Checkpoint:  c.Checkpoint,
 	}
 }
 

@@ -183,7 +183,7 @@ func (t *takeover) make(ctx context.Context) error {
 	if err != nil {
 		return err
 	}
-	again, err := startRun(ctx, t.program, strings.NewReader(questions), "serve", "--log="+t.made)
+	again, err := startRun(ctx, t.program, strings.NewReader(questions), "serve", "--log="+t.made, "--checkpoint=0")
 	if err != nil {
 		return err
 	}
@@ -206,7 +206,7 @@ func (t *takeover) carryOut(ctx context.Context) (told []byte, err error) {
 	if err != nil {
 		return nil, err
 	}
-	kept, err := startRun(ctx, t.program, text(), "serve", "--log="+t.made)
+	kept, err := startRun(ctx, t.program, text(), "serve", "--log="+t.made, "--checkpoint=0")
 	if err != nil {
 		plain.kill()
 		return nil, err

@@ -18,6 +18,7 @@ import (
 var (
 	errDiffer    = errors.New("the stores differ")
 	errNoRegular = errors.New("it is no regular file")
+	errShortened = errors.New("the log was made short meanwhile, each time")
 )
 
 // How many bytes are copied before it is asked again whether they are wanted.
@@ -47,7 +48,7 @@ func onLogs(do func(context.Context, []*pibroulez.Store) (answer, error)) func(c
 
 // The store that a log tells, by a process over a copy.
 func storeOfLog(ctx context.Context, program, path, copied string) (*pibroulez.Store, error) {
-	if err := copyFile(ctx, path, copied); err != nil {
+	if err := copyLog(ctx, path, copied); err != nil {
 		return nil, err
 	}
 	store, err := pibroulez.Open(ctx, program, copied)
@@ -60,7 +61,22 @@ func storeOfLog(ctx context.Context, program, path, copied string) (*pibroulez.S
 	return store, err
 }
 
-// A log's text only grows, and a byte that is written last says how far it goes, so a copy is a log too while lines are added.
+// Copies the file that counts of a log, anew where another one counts then.
+func copyLog(ctx context.Context, path, copied string) error {
+	for try := 0; try < mostTries; try++ {
+		counting := pibroulez.CountingLog(path)
+		if err := copyFile(ctx, counting, copied); err != nil {
+			return err
+		}
+		if pibroulez.CountingLog(path) == counting {
+			return nil
+		}
+	}
+	return errShortened
+}
+
+// The text of the file that counts only grows, and a byte that is written last says how far it goes, so a copy is a log too
+// while lines are added.
 func copyFile(ctx context.Context, from, to string) error {
 	info, err := os.Stat(from)
 	if err != nil {
@@ -74,7 +90,7 @@ func copyFile(ctx context.Context, from, to string) error {
 		return err
 	}
 	defer source.Close()
-	target, err := os.OpenFile(to, os.O_WRONLY|os.O_CREATE|os.O_EXCL, 0o600)
+	target, err := os.OpenFile(to, os.O_WRONLY|os.O_CREATE|os.O_TRUNC, 0o600)
 	if err != nil {
 		return err
 	}

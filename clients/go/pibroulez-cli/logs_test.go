@@ -177,3 +177,26 @@ c       limit           -                                         1/1
 	equal(t, found[4], unlike{"c", "limit", "", []any{1.0, 1.0}, nil})
 	equal(t, status, failed)
 }
+
+// Of a log that was made short the file that counts is read.
+func TestShortLog(t *testing.T) {
+	path := logWith(t, nil)
+	store, err := pibroulez.OpenOrNew(ctx, pibroulez.Config{Program: program(), Log: path, Checkpoint: 1})
+	granted(t, err)
+	defer store.Close()
+	_, err = store.Create(ctx, "a", "k1", "/f")
+	granted(t, err)
+	for n := 0; pibroulez.CountingLog(path) == path; n++ {
+		_, err := store.WriteText(ctx, "a", "k1", "/f", 0, strings.Repeat("x", 100_000))
+		granted(t, err)
+		if n == 100 {
+			t.Fatal("the log isn't made short")
+		}
+	}
+	_, err = store.Discard(ctx, "a", "k1")
+	granted(t, err)
+	out, errs, status := runLogs("log-check", path)
+	if status != 0 || !strings.Contains(out, "the log is whole") || !strings.Contains(out, " 2 snapshots,") {
+		t.Errorf("status %d, %s%s", status, out, errs)
+	}
+}

@@ -126,7 +126,7 @@ func openStore(ctx context.Context, c *configuration.Configuration) (*pibroulez.
 func openLog(ctx context.Context, c *configuration.Configuration) (*pibroulez.Store, error) {
 	config := pibroulez.Config{
 		Program: c.Program, Root: c.Root, Namespaces: map[string]pibroulez.Usage{}, Journal: c.Journal, Slots: c.Slots,
-		LayerInodes: c.LayerInodes, Ancestors: c.Ancestors, Log: c.Log,
+		LayerInodes: c.LayerInodes, Ancestors: c.Ancestors, Log: c.Log, Checkpoint: c.Checkpoint,
 	}
 	if c.Cluster != nil {
 		return cluster.OpenOrNew(ctx, config, told.Sorted(c.Tenants)...)

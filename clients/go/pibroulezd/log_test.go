@@ -6,13 +6,16 @@ import (
 	"errors"
 	"fmt"
 	"math"
+	"math/rand"
 	"os"
 	"os/exec"
 	"path/filepath"
 	"regexp"
 	"strings"
+	"sync"
 	"syscall"
 	"testing"
+	"time"
 	"unsafe"
 
 	"github.com/containerd/containerd/namespaces"
@@ -228,4 +231,87 @@ func TestRootOfAProxy(t *testing.T) {
 		granted(t, err)
 		equal(t, string(kept), old)
 	}
+}
+
+// A daemon's log is made short while four clients change the store, and the daemon is killed at random moments after
+// another file has come to count. What was answered is there, and the files stay within a bound.
+func TestShortLog(t *testing.T) {
+	p := newPlace(t)
+	p.configure(t, "checkpoint = 2\n"+p.lines()+roles("operator")+tenant("a", 1<<20, 1<<20))
+	log := p.path("root/calls.jsonl")
+	random := rand.New(rand.NewSource(1))
+	var mutex sync.Mutex
+	answered := map[string]bool{}
+	for kill := 0; kill < 6; kill++ {
+		it := p.start(t)
+		began := pibroulez.CountingLog(log)
+		var group sync.WaitGroup
+		for n := 0; n < 4; n++ {
+			store, name := p.connect(t), fmt.Sprintf("%d-%d", kill, n)
+			group.Add(1)
+			go func() {
+				defer group.Done()
+				for n := 0; ; n++ {
+					if err := commitLong(store, fmt.Sprintf("%s-%d", name, n)); err != nil {
+						isError(t, err, pibroulez.ErrDied)
+						return
+					}
+					mutex.Lock()
+					answered[fmt.Sprintf("%s-%d", name, n)] = true
+					mutex.Unlock()
+				}
+			}()
+		}
+		deadline := time.Now().Add(time.Minute)
+		for pibroulez.CountingLog(log) == began {
+			if time.Now().After(deadline) {
+				t.Fatalf("%s has counted alone for a minute", began)
+			}
+			time.Sleep(time.Millisecond)
+		}
+		time.Sleep(time.Duration(random.Intn(300)) * time.Millisecond)
+		granted(t, it.Process.Kill())
+		<-it.ended
+		group.Wait()
+	}
+	it := p.start(t)
+	tree, err := p.connect(t).Tree(ctx, "a")
+	granted(t, err)
+	for _, node := range tree {
+		delete(answered, node.Key)
+	}
+	if len(answered) > 0 {
+		t.Errorf("answered, and not there: %v", answered)
+	}
+	// Twice what it has behind a checkpoint: the saved store, with the files of snapshots that are active, and what came meanwhile.
+	saved := int64(0)
+	granted(t, p.connect(t).SaveAll(ctx, func(line json.RawMessage) error { saved += int64(len(line)) + 1; return nil }))
+	bound := 2*saved + 4<<20
+	for _, name := range []string{log, log + "-wal"} {
+		status, err := os.Stat(name)
+		granted(t, err)
+		if status.Size() > bound {
+			t.Errorf("%s has %d bytes, above %d", name, status.Size(), bound)
+		}
+	}
+	it.end(t)
+}
+
+// Commits a snapshot with an empty file, into which much was written.
+func commitLong(store *pibroulez.Store, name string) error {
+	key := name + "-key"
+	_, err := store.Prepare(ctx, "a", key, "")
+	if err == nil {
+		_, err = store.Create(ctx, "a", key, "/f")
+	}
+	for n := 0; err == nil && n < 5; n++ {
+		_, err = store.WriteText(ctx, "a", key, "/f", 0, strings.Repeat("x", 60_000))
+	}
+	if err == nil {
+		_, err = store.Truncate(ctx, "a", key, "/f", 0)
+	}
+	if err == nil {
+		_, err = store.Commit(ctx, "a", key, name)
+	}
+	return err
 }

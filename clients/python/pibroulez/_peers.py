@@ -46,12 +46,12 @@ class Peer(Protocol):
 class Process:
     """A process of the store's own, which keeps a log where one is named."""
 
-    def __init__(self, program: StrPath, log: StrPath | None = None) -> None:
+    def __init__(self, program: StrPath, log: StrPath | None = None, checkpoint: int = 0) -> None:
         """Raises OSError where the program doesn't start."""
         self.log = None if log is None else os.fsdecode(log)
         words: list[StrPath] = [program, "serve"]
         if self.log is not None:
-            words.append(f"--log={self.log}")
+            words += [f"--log={self.log}", f"--checkpoint={checkpoint}"]
         pipe = subprocess.PIPE
         # In a session of its own, so that an interrupt at a terminal reaches the client alone. Without buffers,
         # whose locks a thread would hold where the interpreter ends during its read.

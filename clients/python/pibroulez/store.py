@@ -53,12 +53,21 @@ def _find(log: StrPath, *, create: bool) -> None:
     os.close(os.open(log, flags | (os.O_CREAT if create else 0), 0o600))
 
 
+def _counting(log: StrPath) -> StrPath:
+    """The file that counts of a log: the one beside it where that has a line."""
+    beside = f"{os.fspath(log)}-wal"
+    with contextlib.suppress(FileNotFoundError), open(beside, "rb") as file:
+        if file.read(1) == b"{":
+            return beside
+    return log
+
+
 def _has_store(connection: Connection, log: StrPath, *, may_restore: bool = False) -> bool:
     """Whether the log of a process has a store. Raises BadLog where it has lines and no store, unless they are of a saved one
     and may be."""
     if connection.has_store():
         return True
-    with open(log, "rb") as file:
+    with open(_counting(log), "rb") as file:
         is_empty = file.read(1) != b"{"
     if is_empty or may_restore and next(_commands_in(log), {}).get("do") == "restore":
         return False
@@ -67,7 +76,7 @@ def _has_store(connection: Connection, log: StrPath, *, may_restore: bool = Fals
 
 def _commands_in(log: StrPath) -> Iterator[Mapping[str, Any]]:
     """The commands of a log, and its marks, as questions, among them."""
-    with open(log, "rb") as file, contextlib.suppress(ValueError, RecursionError):
+    with open(_counting(log), "rb") as file, contextlib.suppress(ValueError, RecursionError):
         for text in file:
             command = json.loads(text)
             if not isinstance(command, dict):
@@ -77,7 +86,7 @@ def _commands_in(log: StrPath) -> Iterator[Mapping[str, Any]]:
 
 def _opening_in(log: StrPath) -> Mapping[str, Any]:
     """The command that opened a log's store, in its first line, or the line with which the saved store begins that was
-    restored in it."""
+    restored in it, or written by a checkpoint."""
     head: Mapping[str, Any] = {}
     for command in _commands_in(log):
         do = command.get("do")
@@ -173,6 +182,7 @@ class Store(Snapshots, Files):
         program: StrPath = PROGRAM,
         log: StrPath | None = None,
         roll_when_full: bool = False,
+        checkpoint: int = 0,
     ) -> None:
         """Opens a store with namespaces and their limits, 4096 at most, and, where a log is named, begins that.
 
@@ -185,6 +195,9 @@ class Store(Snapshots, Files):
         sessions are gone then: a call in another session than 0 raises `NoSession`. Several calls that find one
         journal full begin one round. What the roll is refused for is raised by the call.
 
+        With a `checkpoint` the process makes the log short by itself, once it has grown to so many times what it had behind
+        the last checkpoint, of at least 1 MiB. The next round begins then, at any moment, as by `roll` to as many entries.
+
         Raises BadArgument or JournalFull where the store is refused, NotKept where the log has no room for it, OSError
         where the program doesn't start or the log can't be opened, FileExistsError where the log has a store, BadLog
         where the file is no log, BlockingIOError where another process has it, and LogFailed where its sync fails. A
@@ -194,7 +207,7 @@ class Store(Snapshots, Files):
         line = _opening(root, namespaces, **bounds)
         if log is not None:
             _find(log, create=True)
-        connection = Connection(Process(program, log))
+        connection = Connection(Process(program, log, checkpoint))
         with connection.beginning():
             if log is not None and _has_store(connection, log):
                 raise FileExistsError(errno.EEXIST, "the log of a store, to be opened", os.fspath(log))
@@ -215,7 +228,9 @@ class Store(Snapshots, Files):
         return cls._with(connection, None, False)
 
     @classmethod
-    def from_log(cls, log: StrPath, *, program: StrPath = PROGRAM, roll_when_full: bool = False) -> Store:
+    def from_log(
+        cls, log: StrPath, *, program: StrPath = PROGRAM, roll_when_full: bool = False, checkpoint: int = 0
+    ) -> Store:
         """A store as its log tells it, which goes on with the log. The cost is that of all calls in the log.
 
         Raises FileNotFoundError where there is no log, or none with a line, BadLog where the file is no log,
@@ -223,7 +238,7 @@ class Store(Snapshots, Files):
         opened. A file that has text is as it was then. A log of version 0.1.0 is BadLog: see `pibroulez.take_over`.
         """
         _find(log, create=False)
-        connection = Connection(Process(program, log))
+        connection = Connection(Process(program, log, checkpoint))
         with connection.beginning():
             if not _has_store(connection, log):
                 raise FileNotFoundError(errno.ENOENT, "a log without a line", os.fspath(log))
@@ -274,17 +289,19 @@ class Store(Snapshots, Files):
         ancestors: int | None = None,
         program: StrPath = PROGRAM,
         roll_when_full: bool = False,
+        checkpoint: int = 0,
     ) -> Store:
         """The store that the log tells, or a new one where there is no log, or none with a line.
 
         Raises what `from_log` and `Store` raise, and BadLog where the log's store was opened with other values than
         these. Limits that were changed later, and namespaces that were made or removed, don't count. Of a store that was
-        restored in the log `root`, `slots`, `layer_inodes` and `ancestors` count, since nothing changes them.
+        restored in the log, and of a log that was made short, `root`, `slots`, `layer_inodes` and `ancestors` count, since
+        nothing changes them.
         """
         bounds = {"journal": journal, "slots": slots, "layer_inodes": layer_inodes, "ancestors": ancestors}
         line = _opening(root, namespaces, **bounds)
         _find(log, create=True)
-        connection = Connection(Process(program, log))
+        connection = Connection(Process(program, log, checkpoint))
         with connection.beginning():
             if _has_store(connection, log):
                 wanted, found = json.loads(line), _opening_in(log)

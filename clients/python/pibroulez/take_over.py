@@ -58,7 +58,7 @@ def take_over(old: StrPath, new: StrPath, *, program: StrPath = PROGRAM) -> Take
             made = os.path.join(place, "log")
             os.close(os.open(made, os.O_RDWR | os.O_CREAT, 0o600))
             lines, told = _carried_out(file.fileno(), size, questions, os.fsdecode(old), made, program)
-            with _Run([program, "serve", f"--log={made}"], [b"".join(questions)]) as again:
+            with _Run([program, "serve", f"--log={made}", "--checkpoint=0"], [b"".join(questions)]) as again:
                 answers = list(again.answers)
                 again.check(path)
                 if answers != told:
@@ -151,7 +151,7 @@ def _carried_out(
 
     count = 0
     told: List[bytes] = []
-    with _Run([program, "serve", f"--log={made}"], text()) as kept, _Run([program, "serve"], text()) as run:
+    with _Run([program, "serve", f"--log={made}", "--checkpoint=0"], text()) as kept, _Run([program, "serve"], text()) as run:
         for count, wanted in enumerate(run.answers, 1):
             answer = kept.answers.readline()
             if not answer:

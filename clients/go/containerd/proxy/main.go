@@ -20,7 +20,7 @@ import (
 // The version is that of snap_replay.
 const version = "0.2.0"
 
-const help = `usage: pibroulez-proxy [--program PATH] [--root FOLDER] [--socket PATH] [--log-level LEVEL]
+const help = `usage: pibroulez-proxy [--program PATH] [--root FOLDER] [--socket PATH] [--checkpoint N] [--log-level LEVEL]
 
 Serves a snapshotter to containerd, as a proxy plugin of type "snapshot" with the socket as its address. It ends at
 SIGTERM or SIGINT, once what has been asked for by then is answered.
@@ -28,6 +28,8 @@ SIGTERM or SIGINT, once what has been asked for by then is answered.
   --program PATH     snap_replay, which keeps the store; without a / it is looked up in PATH (snap_replay)
   --root FOLDER      where the snapshots are kept, for one process at a time; it is made (/var/lib/pibroulez)
   --socket PATH      where containerd asks, of mode 0660; its folder is made, of mode 0700 (/run/pibroulez/proxy.sock)
+  --checkpoint N     makes the log short where it has grown to so many times what it had behind the last checkpoint, of at
+                     least 1 MiB; 0 never (4)
   --log-level LEVEL  what is told on standard error: error, warn, info, debug with a line for each call (info)
   --help, --version  tell, and end
 
@@ -92,6 +94,7 @@ func read(args []string) (words, error) {
 	flags.StringVar(&given.config.Program, "program", "snap_replay", "")
 	flags.StringVar(&given.config.Root, "root", "/var/lib/pibroulez", "")
 	flags.StringVar(&given.socket, "socket", "/run/pibroulez/proxy.sock", "")
+	flags.Uint64Var(&given.config.Checkpoint, "checkpoint", 4, "")
 	flags.StringVar(&level, "log-level", "info", "")
 	flags.BoolVar(&tellsVersion, "version", false, "")
 	err := flags.Parse(args)

@@ -26,9 +26,17 @@ func TestWords(t *testing.T) {
 	if given.config.Root != "/r" || given.config.Program != "p" || given.socket != "/s" || given.level != logrus.DebugLevel {
 		t.Errorf("%+v", given)
 	}
+	if given.config.Checkpoint != 4 {
+		t.Errorf("%+v", given)
+	}
+	given, err = read([]string{"--checkpoint", "0"})
+	granted(t, err)
+	if given.config.Checkpoint != 0 {
+		t.Errorf("%+v", given)
+	}
 	given, err = read([]string{"--help"})
 	granted(t, err)
-	for _, option := range []string{"--program", "--root", "--socket", "--log-level", "--version", "Statuses"} {
+	for _, option := range []string{"--program", "--root", "--socket", "--checkpoint", "--log-level", "--version", "Statuses"} {
 		if !strings.Contains(given.told, option) {
 			t.Errorf("help without %s", option)
 		}
@@ -40,7 +48,7 @@ func TestWords(t *testing.T) {
 	if given.told != strings.Replace(string(told), "snap_replay", "pibroulez-proxy", 1) {
 		t.Errorf("%q, and the program is %q", given.told, told)
 	}
-	for _, wrong := range [][]string{{"word"}, {"--rot", "/r"}, {"--log-level", "loud"}, {"--root"}} {
+	for _, wrong := range [][]string{{"word"}, {"--rot", "/r"}, {"--log-level", "loud"}, {"--checkpoint", "x"}, {"--root"}} {
 		if _, err := read(wrong); err == nil {
 			t.Errorf("%v is taken", wrong)
 		}

@@ -26,6 +26,8 @@ const (
 	mostSlots     = 4096
 	mostInodes    = 1 << 24
 	mostAncestors = 500
+	// With 1 the log would be made short all the time.
+	leastCheckpoint, mostCheckpoint = 2, 1 << 10
 )
 
 // The most tenants of a store of a cluster: cluster.MostTenants.
@@ -48,8 +50,8 @@ type Configuration struct {
 	// Root is the directory that mounts name, Program the path of snap_replay, and Log the file that keeps the calls.
 	Root, Program, Log string
 	// Journal is the most entries of a round, Slots how many snapshots may be active at one time, LayerInodes the most inodes
-	// of each layer, and Ancestors the most committed ancestors of a snapshot.
-	Journal, Slots, LayerInodes, Ancestors uint64
+	// of each layer, and Ancestors the most committed ancestors of a snapshot. Checkpoint is that of pibroulez.Config.
+	Journal, Slots, LayerInodes, Ancestors, Checkpoint uint64
 	// Lines is the door for builders and quota services, or nil for none.
 	Lines *Lines
 	// Containerd is the door for containerd, or nil for none. Its namespace is among the tenants.
@@ -216,10 +218,14 @@ func (r *reader) configuration(t *table) *Configuration {
 		Slots:       t.number("slots", mostSlots, 1, mostSlots),
 		LayerInodes: t.number("layer_inodes", mostInodes, 1, mostInodes),
 		Ancestors:   t.number("ancestors", mostAncestors, 1, mostAncestors),
+		Checkpoint:  t.number("checkpoint", 4, 0, mostCheckpoint),
 		Tenants:     map[string]Tenant{},
 	}
 	if c.Root == "" && !t.has("root") {
 		t.fault("root", "a path is wanted, nothing is there")
+	}
+	if c.Checkpoint > 0 && c.Checkpoint < leastCheckpoint {
+		t.fault("checkpoint", fmt.Sprintf("0 or a number from %d to %d is wanted, another number is there", leastCheckpoint, mostCheckpoint))
 	}
 	c.Log = t.path("log", filepath.Join(c.Root, "calls.jsonl"))
 	if c.Program == "" {

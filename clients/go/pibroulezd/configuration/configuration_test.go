@@ -37,6 +37,7 @@ journal = 65536
 slots = 64
 layer_inodes = 1000
 ancestors = 128
+checkpoint = 7
 
 [lines]
 socket = "/run/x.sock"
@@ -67,7 +68,7 @@ func TestWhole(t *testing.T) {
 	none := map[uint32]bool{}
 	equal(t, *c, Configuration{
 		Root: "/srv/store", Program: "/usr/local/bin/snap_replay", Log: "/srv/log",
-		Journal: 65536, Slots: 64, LayerInodes: 1000, Ancestors: 128,
+		Journal: 65536, Slots: 64, LayerInodes: 1000, Ancestors: 128, Checkpoint: 7,
 		Lines:     &Lines{"/run/x.sock", 0o600, 2048, 7, 5 * time.Second, "/var/log/refusals"},
 		Operators: Members{map[uint32]bool{0: true, 7: true}, none},
 		Quotas:    Members{none, map[uint32]bool{0: true, 8: true}},
@@ -85,7 +86,7 @@ func TestLeftOut(t *testing.T) {
 	members := Members{map[uint32]bool{}, map[uint32]bool{}}
 	equal(t, *c, Configuration{
 		Root: "/r", Program: "snap_replay", Log: "/r/calls.jsonl", Journal: 1048576, Slots: 4096, LayerInodes: 16777216,
-		Ancestors: 500, Tenants: map[string]Tenant{}, Operators: members, Quotas: members,
+		Ancestors: 500, Checkpoint: 4, Tenants: map[string]Tenant{}, Operators: members, Quotas: members,
 	})
 	c, err = parse("p", []byte("root = \"/r\"\n[lines]"))
 	granted(t, err)
@@ -115,6 +116,8 @@ func TestFaults(t *testing.T) {
 		{"root = \"/r\"\nancestors = 0", "p:2: ancestors: a number from 1 to 500 is wanted, another number is there"},
 		{"root = \"/r\"\nancestors = 501", "p:2: ancestors: a number from 1 to 500 is wanted, another number is there"},
 		{"root = \"/r\"\nancestors = \"64\"", "p:2: ancestors: a number from 1 to 500 is wanted, another text is there"},
+		{"root = \"/r\"\ncheckpoint = 1", "p:2: checkpoint: 0 or a number from 2 to 1024 is wanted, another number is there"},
+		{"root = \"/r\"\ncheckpoint = 1025", "p:2: checkpoint: a number from 0 to 1024 is wanted, another number is there"},
 		{"root = \"/r\"\njournal = 65535", "p:2: journal: a number from 65536 to 1048576 is wanted, another number is there"},
 		{"root = \"/r\"\n[tenants]\na = 5", "p:3: tenants.a: a table is wanted, another number is there"},
 		{"root = \"/r\"\n[[tenants]]\nblocks = 1", "p:2: tenants: a table is wanted, an array is there"},
@@ -250,12 +253,12 @@ inodes = 1
 		keys = append(keys, it.Key)
 	}
 	equal(t, keys, []string{
-		"ancestors", "journal", "layer_inodes", "lines", "log", "program", "root", "slots",
+		"ancestors", "checkpoint", "journal", "layer_inodes", "lines", "log", "program", "root", "slots",
 	})
-	if words := refused[3].Error(); words != "p: lines: it can't change while the daemon runs: the door stays" {
+	if words := refused[4].Error(); words != "p: lines: it can't change while the daemon runs: the door stays" {
 		t.Error(words)
 	}
-	if words := refused[6].Error(); words != "p: root: it can't change while the daemon runs: /srv/store stays" {
+	if words := refused[7].Error(); words != "p: root: it can't change while the daemon runs: /srv/store stays" {
 		t.Error(words)
 	}
 	want := *old

@@ -83,7 +83,7 @@ func (c *Configuration) Next(path string, read *Configuration) (*Configuration, 
 func (c *Configuration) fixed() map[string]any {
 	all := map[string]any{
 		"root": c.Root, "program": c.Program, "log": c.Log, "journal": c.Journal, "slots": c.Slots,
-		"layer_inodes": c.LayerInodes, "ancestors": c.Ancestors,
+		"layer_inodes": c.LayerInodes, "ancestors": c.Ancestors, "checkpoint": c.Checkpoint,
 		"lines": door(c.Lines != nil), "containerd": door(c.Containerd != nil),
 		"watch": door(c.Watch != nil), "cluster": clusterOf(c.Cluster),
 	}

@@ -33,7 +33,7 @@ var (
 	snapshotsDesc   = described("snapshots", "The snapshots.", "tenant", "kind")
 	entriesDesc     = described("journal_entries", "The entries of the journal's round.")
 	logBytesDesc    = described("log_bytes", "The bytes of the log's lines.")
-	logAppendsDesc  = described("log_appends_total", "The appends to the log since it was made, each with two syncs.")
+	logAppendsDesc  = described("log_appends_total", "The appends to the log, each with two syncs: at first those whose marks it has.")
 	connectionsDesc = described("connections", "The connections of the door for lines.")
 	linesDesc       = described("lines_total", "The lines that the door has read.")
 	faultsDesc      = described("line_faults_total", "The lines that the store took for no command.")
