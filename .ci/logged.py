@@ -148,9 +148,13 @@ def served(lines):
     return ended.answers
 
 
-def started(path, lines, **how):
+# The words by which a log stays in one file, and by which it is made short where it has more than 1 MiB.
+ALONE, SHORT = ("--checkpoint", "0"), ("--checkpoint", "1")
+
+
+def started(path, lines, times=ALONE, **how):
     """The program over a log, with these lines."""
-    return run(["serve", "--log", path], as_text(lines), **how)
+    return run(["serve", "--log", path, *times], as_text(lines), **how)
 
 
 def not_kept(line):
@@ -220,9 +224,9 @@ WRITTEN, SYNCED, ANSWERED = 1, 2, 3
 class Server:
     """A process over a log, whose lines are sent and answered part by part."""
 
-    def __init__(self, path, **how):
+    def __init__(self, path, times=ALONE, **how):
         streams = dict.fromkeys(("stdin", "stdout", "stderr"), subprocess.PIPE)
-        self.process = subprocess.Popen([PROGRAM, "serve", "--log", path], bufsize=0, close_fds=False, **streams, **how)
+        self.process = subprocess.Popen([PROGRAM, "serve", "--log", path, *times], bufsize=0, close_fds=False, **streams, **how)
         self.rest = b""
 
     def __enter__(self):

@@ -105,10 +105,12 @@ def print_files():
 def chief_calls():
     """The calls in the first column of README's table, with their crates."""
     for line in read("README.md").split("\n"):
-        cell = re.match(r"\| (`.*?\[`(snap_\w+)`\]\([^)]*\)) \|", line)
+        cell = re.match(r"\| (`.*?\[`snap_\w+`\]\([^)]*\)) \|", line)
         if cell and ":" in cell[1]:
-            for call in re.findall(r"(?:(?<=^)|(?<=, )|(?<=and ))`([\w:]+)`", cell[1].split(" of [")[0].split(": ")[0]):
-                yield cell[2], call
+            for named, crate in re.findall(r"(`.*?) of \[`(snap_\w+)`\]", cell[1]):
+                first, _, more = named.partition(": ")
+                calls = re.findall(r"(?:(?<=^)|(?<=, )|(?<=and ))`([\w:]+)`", first) + re.findall(r"`([\w:]+)`: ", more)
+                yield from ((crate, call) for call in calls)
 
 
 def chief_clauses():
