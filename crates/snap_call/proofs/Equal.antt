@@ -1,4 +1,4 @@
--- Equality of infos and of filters, as their types compare them.
+-- Equality of infos and of filters on labels, as their types compare them.
 use Rattle.std.proofs.Common.{◌≡◌, ◌&&◌, Bool, true≢false, Option, Some, None, refl, sym, ap}
 use Rattle.std.proofs.lemmas.Bool.Decides.{Decides-and, Decides-eqb, Decides-like}
 use Rattle.std.specs.Bool.{Decides}
@@ -8,7 +8,6 @@ use Rattle.std.specs.Prelude.{nat_eq}
 use denote.Enum.Bare.{sameb}
 use Rattle.snap_record.specs.Labels.{Label}
 use Rattle.snap_record.specs.contracts.kind.Kind.{the_type}
-use Rattle.snap_record.specs.declared.filter.Filter.{Filter}
 use Rattle.snap_record.specs.declared.filter.LabelFilter.{LabelFilter}
 use Rattle.snap_record.specs.declared.info.Info.{Info}
 use Rattle.snap_record.specs.declared.kind.Kind.{Kind}
@@ -54,11 +53,3 @@ label_filter_decides a b =
     (λ h i. record { key = h.0 i; value = h.1 i })
     (λ e. (ap (λ (x : LabelFilter). x.key) e, ap (λ (x : LabelFilter). x.value) e))
     (Decides-and _ _ (bytes_decides a.key b.key) (option_decides bytes_decides a.value b.value))
-
--- the same filters
-pub filter_decides : (a b : Filter) → Decides (option_eq (pointwise nat_eq) a.name b.name && (option_eq (pointwise nat_eq) a.parent b.parent && (option_eq (sameb the_type) a.kind b.kind && pointwise (λ (x y : LabelFilter). pointwise nat_eq x.key y.key && option_eq (pointwise nat_eq) x.value y.value) a.labels b.labels))) (a ≡ b)
-filter_decides a b =
-    Decides-like _
-    (λ h i. record { name = h.0 i; parent = h.1.0 i; kind = h.1.1.0 i; labels = h.1.1.1 i })
-    (λ e. (ap (λ (x : Filter). x.name) e, (ap (λ (x : Filter). x.parent) e, (ap (λ (x : Filter). x.kind) e, ap (λ (x : Filter). x.labels) e))))
-    (Decides-and _ _ (option_decides bytes_decides a.name b.name) (Decides-and _ _ (option_decides bytes_decides a.parent b.parent) (Decides-and _ _ (option_decides kind_decides a.kind b.kind) (pointwise_decides label_filter_decides a.labels b.labels))))

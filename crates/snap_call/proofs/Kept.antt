@@ -46,6 +46,7 @@ use Rattle.snap_call.proofs.Lowest.{lowest_free-Some}
 use Rattle.snap_call.proofs.Replaying.{Replays-over}
 use Rattle.snap_call.proofs.Places.{IsPlace, place_for-Ok, place_for-texts, slot_for-Ok}
 use Rattle.snap_call.proofs.Keeping.{covers-Covers, good_counters, good_counted, good_prepared, good_viewed, good_recharged, covered, good_discarded, good_removed, good_committed, good_relabelled}
+use Rattle.snap_call.proofs.Tested.{commit_by_tests}
 
 -- ---- one call
 
@@ -107,10 +108,7 @@ good_trim s slot id good (Layer layer) h = good_counted s good
 good_commit_as : (s : State) (slot id : ℕ) (name : Bytes) (lease : Option Bytes) (labels : Option (List Label)) (layer : Tree) → Good s → (o : Option Record) → active_at slot s.records ≡ o → IsCovered id (count_of layer) o → Good (commit_as s slot name lease labels layer o).0
 good_commit_as s slot id name lease labels layer good None e h = good_counted s good
 good_commit_as s slot id name lease labels layer good (Some r) e h =
-    either (are_formed name lease labels) _ _
-    (λ formed. either (has_key r.namespace name s.records) _ _ (λ taken. good_counted s good)
-    (λ free. either (has_named s r.namespace lease) _ _ (λ named. good_committed s slot name lease labels layer r good e formed free h.1) (λ unnamed. good_counted s good)))
-    (λ bad. good_counted s good)
+    commit_by_tests (λ x. Good x.0) s slot name lease labels layer r (λ why. good_counted s good) (λ formed free named. good_committed s slot name lease labels layer r good e formed free h.1)
 
 pub good_commit : (s : State) (slot id : ℕ) (name : Bytes) (lease : Option Bytes) (labels : Option (List Label)) → Good s → (given : Given) → IsAllowed s (calls.Commit slot id name lease labels) given → Good (commit s slot name lease labels given).0
 good_commit s slot id name lease labels good (Layer layer) h = good_commit_as s slot id name lease labels layer good (active_at slot s.records) refl h

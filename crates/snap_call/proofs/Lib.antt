@@ -11,6 +11,7 @@ pub mod Alike
 pub mod Lowest
 pub mod Slots
 pub mod Parts
+pub mod Tested
 pub mod Places
 mod CodeLemmas
 mod Searches

@@ -28,6 +28,7 @@ use Rattle.snap_call.specs.State.{is_taken, most_namespaces, place_of}
 use Rattle.snap_call.specs.Step.{are_formed, refused, prepared, prepare, granted, charge, trim, commit_as, discard, ask, step, place_for, slot_for, unless_refused, mounts, prepare_view, update_record, in_namespace, has_named, sweep_at, at_record}
 use Rattle.snap_call.specs.Steps.{session, remove, update, walk_infos, set_limit, namespace_create, namespace_remove, lease_create, lease_add, lease_drop, lease_release}
 use Rattle.snap_call.proofs.Parts.{prepare_at, charge_to, view_at, remove_record, set_limit_at, namespace_remove_at, lease_add_record, lease_drop_at, commit}
+use Rattle.snap_call.proofs.Tested.{commit_by_tests}
 
 -- a session is counted where one is left
 abbrev pub opened : State → Bool → State × Reply
@@ -70,10 +71,7 @@ module _ (R : State → State → Type 0) (made : (s t : State) → t.slots ≡ 
 
   committing_as : (s : State) (slot : ℕ) (name : Bytes) (lease : Option Bytes) (labels : Option (List Label)) (layer : Tree) (o : Option Record) → R s (commit_as s slot name lease labels layer o).0
   committing_as s slot name lease labels layer (Some r) =
-      either s (are_formed name lease labels) _ _
-      (either s (has_key r.namespace name s.records) _ _ (made _ _ refl refl)
-      (either s (has_named s r.namespace lease) _ _ (made _ _ refl refl) (made _ _ refl refl)))
-      (made _ _ refl refl)
+      commit_by_tests (λ x. R s x.0) s slot name lease labels layer r (λ why. made _ _ refl refl) (λ formed free named. made _ _ refl refl)
   committing_as s slot name lease labels layer None = made _ _ refl refl
 
   committing : (s : State) (slot : ℕ) (name : Bytes) (lease : Option Bytes) (labels : Option (List Label)) (given : Given) → R s (commit s slot name lease labels given).0

@@ -5,7 +5,7 @@ ghost use Rattle.snap_call.specs.declared.call.Call.TheVariants as calls;
 use crate::call::{Call, Given};
 use crate::reply::Reply;
 use snap_mount::Mount;
-use snap_record::{Filter, Info, Labels, Sequence, Text};
+use snap_record::{Filter, Info, LabelFilter, Labels, Sequence, Text};
 use snap_usage::Usage;
 
 pub(crate) fn is_same_labels(a: &Labels, b: &Labels) -> bool
@@ -48,10 +48,19 @@ pub(crate) fn is_same_infos(a: &Sequence<Info>, b: &Sequence<Info>) -> bool
     *a == *b
 }
 
-pub(crate) fn is_same_filter(a: &Filter, b: &Filter) -> bool
+fn is_same_label_filters(a: &Sequence<LabelFilter>, b: &Sequence<LabelFilter>) -> bool
     ensures { IsTrue result ↔ (a.now ≡ b.now) }
 {
     *a == *b
+}
+
+pub(crate) fn is_same_filter(a: &Filter, b: &Filter) -> bool
+    ensures { IsTrue result ↔ (a.now ≡ b.now) }
+{
+    a.name == b.name
+        && a.parent == b.parent
+        && a.kind == b.kind
+        && is_same_label_filters(&a.labels, &b.labels)
 }
 
 pub(crate) fn is_same_texts(a: &Sequence<Text>, b: &Sequence<Text>) -> bool

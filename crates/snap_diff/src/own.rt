@@ -40,7 +40,7 @@ impl<'a> Own<'a> {
     pub(crate) fn entry(&self, name: &Name) -> Own<'a>
         ensures { (t : Tree) (p : Names) → IsLayer t → IsOwnPlace t p self.now.node self.now.dir self.now.hidden → IsOwnPlace t (p ++ name.now ∷ []) result.node result.dir result.hidden }
     {
-        let hidden = self.hidden | self.hides();
+        let hidden = self.hidden | node_hides(self.node);
         match self.find(name) {
             Some((node, dir)) => Own {
                 node: Some(node),
@@ -75,13 +75,6 @@ impl<'a> Own<'a> {
         }
     }
 
-    /// Whether the node hides what the layers below have under it.
-    fn hides(&self) -> bool
-        ensures { result ≡ node_hides self.now.node }
-    {
-        node_hides(self.node)
-    }
-
     /// What is seen at the path, over what the layers below show there.
     pub(crate) fn seen_over(&self, layer: &'a Layer, old: Option<Seen<'a>>) -> Option<Seen<'a>>
         ensures { option_map object result ≡ shown_over layer.now self.now.node self.now.hidden (option_map object old.entry) }
@@ -104,6 +97,6 @@ impl<'a> Own<'a> {
     pub(crate) fn is_merged(&self) -> bool
         ensures { result ≡ (not (node_hides self.now.node) && not self.now.hidden) }
     {
-        !self.hides() && !self.hidden
+        !node_hides(self.node) && !self.hidden
     }
 }

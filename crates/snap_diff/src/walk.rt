@@ -108,20 +108,6 @@ impl<'a> Walk<'a> {
         show_are_layers(self.lowers);
     }
 
-    /// The layers below alone.
-    fn old(&self) -> Stack<'a>
-        ensures { result ≡ self.now.lowers.now }
-    {
-        Stack::of(self.lowers)
-    }
-
-    /// The layer over those below.
-    fn new(&self) -> Stack<'a>
-        ensures { result ≡ self.now.layer.now ∷ self.now.lowers.now }
-    {
-        Stack::over(self.layer, self.lowers)
-    }
-
     /// Keeps the change at the place, if there is one, where it is of the page and has room.
     fn put_change(
         &self,
@@ -152,8 +138,14 @@ impl<'a> Walk<'a> {
         self.show_are_layers();
         let path = path.path(self.alloc)?;
         let mut all = BTreeSet::new(self.alloc);
-        put_names(&mut all, names_in(self.alloc, &self.new(), &path)?)?;
-        put_names(&mut all, names_in(self.alloc, &self.old(), &path)?)?;
+        put_names(
+            &mut all,
+            names_in(self.alloc, &Stack::over(self.layer, self.lowers), &path)?,
+        )?;
+        put_names(
+            &mut all,
+            names_in(self.alloc, &Stack::of(self.lowers), &path)?,
+        )?;
         Ok(all)
     }
 
@@ -169,7 +161,7 @@ impl<'a> Walk<'a> {
             return Ok(None);
         }
         let path = path.path(self.alloc)?;
-        Ok(self.old().look(&path))
+        Ok(Stack::of(self.lowers).look(&path))
     }
 
     /// Keeps the changes at the place and below it, at `depth` names in a row at the most. `below` is false where the

@@ -21,6 +21,7 @@ use Rattle.snap_call.specs.Journal.{Replays}
 use Rattle.snap_call.proofs.Leasing.{name_at-place}
 use Rattle.snap_call.proofs.Lists.{all-with_record, all-without}
 use Rattle.snap_call.proofs.Places.{place_for-Ok}
+use Rattle.snap_call.proofs.Tested.{commit_by_tests}
 use Rattle.snap_grants.specs.Grants.{Stored, Origin, IsKeeping, AreKeeping, worth, grant_of, grants, IsOrigin, AreOrigins, CommittedLaw}
 use Rattle.snap_grants.proofs.Staying.{either, unless, Stays, counts, stays}
 use Rattle.snap_grants.proofs.Weights.{HasOrigin, Comes, AllCome, weights-with_record, weights-without_slot, active_at-origin, comes-idle}
@@ -80,10 +81,7 @@ module _ (origin : ℕ → Origin) (s : State) (all : AllCome origin s) where
 
   moves_commit_as : (slot id : ℕ) (name : Bytes) (lease : Option Bytes) (labels : Option (List Label)) (layer : Tree) (o : Option Record) → active_at slot s.records ≡ o → IsCovered id (count_of layer) o → Moves origin s (calls.Commit slot id name lease labels) (Layer layer) (commit_as s slot name lease labels layer o)
   moves_commit_as slot id name lease labels layer (Some r) found covered =
-      either P (are_formed name lease labels) _ _
-      (either P (has_key r.namespace name s.records) _ _ (none _)
-      (either P (has_named s r.namespace lease) _ _ (moves_committed slot id name lease labels layer r found covered.0) (none _)))
-      (none _)
+      commit_by_tests P s slot name lease labels layer r none (λ formed free named. moves_committed slot id name lease labels layer r found covered.0)
     where
       P : State × Reply → Type 0
       P next = Moves origin s (calls.Commit slot id name lease labels) (Layer layer) next

@@ -17,6 +17,7 @@ use Rattle.snap_call.specs.Records.{has_key, active_at}
 use Rattle.snap_call.specs.Step.{are_formed, refused, place_for, slot_for, prepared, prepare, has_named, commit_as, step}
 use Rattle.snap_call.proofs.Parts.{prepare_at, commit}
 use Rattle.snap_call.specs.Journal.{Replays}
+use Rattle.snap_call.proofs.Tested.{commit_by_tests}
 use Rattle.snap_grants.specs.Grants.{Origin, IsKeeping, AreKeeping, IsOrigin, AreOrigins, origin_of, origin_in}
 use Rattle.snap_grants.proofs.Staying.{either, unless, stays}
 
@@ -51,10 +52,7 @@ module _ (s : State) where
 
   same_commit_as : (slot : ℕ) (name : Bytes) (lease : Option Bytes) (labels : Option (List Label)) (layer : Tree) (o : Option Record) → Same (commit_as s slot name lease labels layer o)
   same_commit_as slot name lease labels layer (Some r) =
-      either Same (are_formed name lease labels) _ _
-      (either Same (has_key r.namespace name s.records) _ _ refl
-      (either Same (has_named s r.namespace lease) _ _ refl refl))
-      refl
+      commit_by_tests Same s slot name lease labels layer r (λ why. refl) (λ formed free named. refl)
   same_commit_as slot name lease labels layer None = refl
 
   same_commit : (slot : ℕ) (name : Bytes) (lease : Option Bytes) (labels : Option (List Label)) (given : Given) → Same (commit s slot name lease labels given)

@@ -29,6 +29,7 @@ use Rattle.snap_call.specs.Step.{are_formed, refused, prepared, prepare, granted
 use Rattle.snap_call.specs.Steps.{session, remove, update, walk_infos, set_limit, lease_create, lease_add, lease_drop, lease_release}
 use Rattle.snap_call.proofs.Parts.{prepare_at, charge_to, view_at, remove_record, set_limit_at, lease_add_record, lease_drop_at, commit}
 use Rattle.snap_call.proofs.Leasing.{place_of-limited}
+use Rattle.snap_call.proofs.Tested.{commit_by_tests}
 
 -- the namespaces have the same names at the same places
 abbrev IsNext : State → State → Type 0
@@ -70,10 +71,7 @@ trimming s slot (Layer layer) o = (λ name. refl)
 
 committing_as : (s : State) (slot : ℕ) (name : Bytes) (lease : Option Bytes) (labels : Option (List Label)) (layer : Tree) (o : Option Record) → IsNext s (commit_as s slot name lease labels layer o).0
 committing_as s slot name lease labels layer (Some r) =
-    either s (are_formed name lease labels) _ _
-    (either s (has_key r.namespace name s.records) _ _ (λ name. refl)
-    (either s (has_named s r.namespace lease) _ _ (λ name. refl) (λ name. refl)))
-    (λ name. refl)
+    commit_by_tests (λ x. IsNext s x.0) s slot name lease labels layer r (λ why name. refl) (λ formed free named name. refl)
 committing_as s slot name lease labels layer None = (λ name. refl)
 
 committing : (s : State) (slot : ℕ) (name : Bytes) (lease : Option Bytes) (labels : Option (List Label)) (given : Given) → IsNext s (commit s slot name lease labels given).0

@@ -44,6 +44,7 @@ use Rattle.snap_call.proofs.Places.{IsSlotFor, place_for-Ok, slot_for-Ok}
 use Rattle.snap_call.proofs.Slots.{Active-is_slot, active_at-Active, active_at-committed_other, active_at-committed_own, active_at-recharged_other, active_at-recharged_own, active_at-with_record_other, active_at-with_record_own, active_at-without_idle, active_at-without_slot_other, active_at-without_slot_own, is_slot-other}
 use Rattle.snap_call.proofs.Sums.{charge_of-recharged, charge_of-with_record, charge_of-without, plus-none}
 use Rattle.snap_call.proofs.Sweeping.{active_at-unswept, swept_others, swept_sum}
+use Rattle.snap_call.proofs.Tested.{commit_by_tests}
 use Rattle.snap_history.specs.History.{namespace_in, slot_in, is_call_of}
 use Rattle.snap_history.specs.Changes.{change, change_by, changed_to, is_own, named_change, named_shares, no_change, recharged_to, share_of_slot, shares_by, slot_change, slot_shares, with_share}
 use Rattle.snap_history.specs.declared.change.Change.{Change}
@@ -463,10 +464,7 @@ module _ (name : Bytes) (place : ℕ) (s : State) (shares : List (Option Usage))
 
     turns_commit : (key : Bytes) (lease : Option Bytes) (labels : Option (List Label)) (layer : Tree) → OnSlot (Layer layer) (commit_as s slot key lease labels layer (Some r))
     turns_commit key lease labels layer =
-        cases_if (OnSlot (Layer layer)) (are_formed key lease labels) _ _
-        (λ formed. cases_if (OnSlot (Layer layer)) (has_key r.namespace key s.records) _ _ (λ taken. refuses)
-        (λ new. cases_if (OnSlot (Layer layer)) (has_named s r.namespace lease) _ _ (λ named. commits key lease labels layer) (λ unnamed. refuses)))
-        (λ bad. refuses)
+        commit_by_tests (OnSlot (Layer layer)) s slot key lease labels layer r (λ why. refuses) (λ formed new named. commits key lease labels layer)
 
     turns_discard : (given : Given) → OnSlot given (discard s slot (Some r))
     turns_discard given =

@@ -71,7 +71,12 @@ impl<'a> Edit<'a> {
         ensures { IfOk result (λ c. c ≡ edited self.entry old.now) }
     {
         match old {
-            Content::Bytes(bytes) => Ok(Content::Bytes(self.bytes(alloc, bytes.as_slice())?)),
+            Content::Bytes(bytes) => {
+                let old = bytes.as_slice();
+                let mut bytes = Bytes::copy_of(alloc, &old[..self.kept(old.len())])?;
+                bytes.edit(self)?;
+                Ok(Content::Bytes(bytes))
+            }
             Content::Sized { size, .. } => {
                 if !self.changes(*size) {
                     return old.clone();
@@ -82,16 +87,6 @@ impl<'a> Edit<'a> {
                 })
             }
         }
-    }
-
-    /// A copy of the bytes, edited.
-    fn bytes(self, alloc: Global, old: &[u8]) -> Result<Bytes, AllocError>
-        requires { IsShort self (content_kinds.Bytes old.now) }
-        ensures { IfOk result (λ b. content_kinds.Bytes b ≡ edited self.entry (content_kinds.Bytes old.now)) }
-    {
-        let mut bytes = Bytes::copy_of(alloc, &old[..self.kept(old.len())])?;
-        bytes.edit(self)?;
-        Ok(bytes)
     }
 }
 

@@ -65,21 +65,13 @@ impl Content {
         match self {
             Content::Bytes(bytes) => bytes.edit(edit),
             Content::Sized { size, digest } => {
-                edit_sized(size, digest, edit);
+                if edit.changes(*size) {
+                    *size = edit.size(*size);
+                    *digest = None;
+                }
                 Ok(())
             }
         }
-    }
-}
-
-/// Edits a file of a size in place. The digest goes where anything changes.
-fn edit_sized(size: &mut u64, digest: &mut Option<Bytes>, edit: Edit<'_>)
-    requires { IsShort edit (content_kinds.Sized size.old digest.old) }
-    ensures { content_kinds.Sized size.new digest.new ≡ edited edit.entry (content_kinds.Sized size.old digest.old) }
-{
-    if edit.changes(*size) {
-        *size = edit.size(*size);
-        *digest = None;
     }
 }
 

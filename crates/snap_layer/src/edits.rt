@@ -216,7 +216,7 @@ impl Layer {
         ensures layer { IsLayer self.new }
     {
         let left = self.left_front(path, front);
-        self.table.take_front(path, front);
+        self.table.take(&path.names()[..front]);
         self.totals = left;
     }
 

@@ -127,7 +127,7 @@ impl Layer {
         ensures dir { result ≡ record { layer = self.now; path = [] } }
         ensures layer { IsLayer self.now }
     {
-        self.table.root_dir()
+        Dir::root(&self.table, &self.table.slots, self.table.root)
     }
 
     /// What stands at the path in this layer alone, or nothing.
@@ -138,7 +138,7 @@ impl Layer {
         ensures path { IsPath path.now }
         ensures layer { IsLayer self.now }
     {
-        self.table.at(path)
+        self.table.node_at(path.names())
     }
 
     /// What stands at the path of the first `names` names of a path.
@@ -148,7 +148,7 @@ impl Layer {
         requires { names ≤ length path.now }
         ensures { result ≡ at self.now (take names path.now) }
     {
-        self.table.at_front(path, names)
+        self.table.node_at(&path.names()[..names])
     }
 
     /// The names in a directory, in byte order, whiteouts among them. There are none where no directory
@@ -212,7 +212,7 @@ impl Layer {
         ensures bounds { (1 ≤ result) × (result ≤ most_inodes) }
         ensures layer { IsLayer self.now }
     {
-        self.table.most_inodes()
+        self.table.most
     }
 
     /// The inodes that are left where what stands at the path and the whiteouts in it are taken. The inode of a file or
@@ -328,7 +328,7 @@ impl Layer {
         ensures next { result ≡ self.now.next }
         ensures layer { IsLayer self.now }
     {
-        self.table.next_number()
+        self.table.next
     }
 
     /// The allocator that the layer keeps. The cost is constant.

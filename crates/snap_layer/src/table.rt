@@ -21,16 +21,15 @@ mod same;
 
 use super::bytes::Edit;
 use super::chain::put_dirs;
-use super::dir::Dir;
 use super::edit::{
     body_at, copied, cover, edit_body, links_at, next_place, place_of, put_inode, put_leaf,
     relocate, replace_name, set_body, set_dir, set_mode, take_target,
 };
 use super::inode::Inode;
 use super::node::{Body, Meta, Node};
-use super::walk::{dir_at, entry_at, parent_at, parent_of, stands};
+use super::walk::{dir_at, entry_at, parent_at, parent_of};
 use slab::Slab;
-use snap_path::Path;
+use snap_path::{Name, Path};
 use std::alloc::{AllocError, Global};
 use std::collections::BTreeMap;
 use std::marker::Model;
@@ -100,29 +99,6 @@ impl Table {
         })
     }
 
-    /// The root directory.
-    pub fn root_dir(&self) -> Dir<'_>
-        ensures { result ≡ record { layer = self.now; path = [] } }
-    {
-        Dir::root(self, &self.slots, self.root)
-    }
-
-    /// What stands at the path.
-    pub fn at(&self, path: &Path) -> Option<Node>
-        ensures node { result ≡ at self.now path.now }
-        ensures path { IsPath path.now }
-    {
-        stands(&self.slots, self.root, path.names())
-    }
-
-    /// What stands at the path of the first `names` names of a path.
-    pub fn at_front(&self, path: &Path, names: usize) -> Option<Node>
-        requires { names ≤ length path.now }
-        ensures { result ≡ at self.now (take names path.now) }
-    {
-        stands(&self.slots, self.root, &path.names()[..names])
-    }
-
     /// The file or symlink with the number, or nothing.
     pub fn body(&self, number: u32) -> Option<&Body>
         ensures { option_copied result ≡ body self.now number }
@@ -141,22 +117,6 @@ impl Table {
             Some(key) => links_at(&self.slots, key),
             None => 0,
         }
-    }
-
-    /// The number that the next file or symlink gets.
-    pub fn next_number(&self) -> u32
-        ensures next { result ≡ self.now.next }
-        ensures layer { IsLayer self.now }
-    {
-        self.next
-    }
-
-    /// The most inodes that the layer may have.
-    pub fn most_inodes(&self) -> usize
-        ensures most { result ≡ self.now.most }
-        ensures layer { IsLayer self.now }
-    {
-        self.most
     }
 
     /// The least number above `after` that a file or symlink has, or nothing.
@@ -245,8 +205,8 @@ impl Table {
         ensures err { OnErr result (self.new ≡ self.old) }
     {
         // a new name takes the place of a whiteout first: so no table on the way has more inodes than the last
-        let number = self.next_number();
-        let covers = self.at(link).is_some();
+        let number = self.next;
+        let covers = self.node_at(link.names()).is_some();
         self.put_leaf(link, body)?;
         if let Err(refused) = self.put_name(path, number) {
             self.take_back(link, covers);
@@ -265,7 +225,7 @@ impl Table {
         if covers {
             let _ = self.whiteout(path);
         } else {
-            self.take(path);
+            self.take(path.names());
         }
         self.give_back_number();
     }
@@ -299,24 +259,14 @@ impl Table {
         cover(&mut self.slots, &mut self.places, dir, name)
     }
 
-    /// Takes a name, a whiteout, or a directory that has whiteouts alone. A file or symlink goes with its last
-    /// name.
-    pub fn take(&mut self, path: &Path)
-        requires takeable { IsTakeable self.old path.now }
-        requires layer { IsLayer (without self.old path.now) }
-        ensures { self.new ≡ without self.old path.now }
+    /// Takes a name, a whiteout, or a directory that has whiteouts alone, at the path of the names. A file or symlink
+    /// goes with its last name.
+    pub fn take(&mut self, names: &[Name])
+        requires takeable { IsTakeable self.old names.now }
+        requires layer { IsLayer (without self.old names.now) }
+        ensures { self.new ≡ without self.old names.now }
     {
-        self.take_front(path, path.names().len());
-    }
-
-    /// The same at the path of the first `front` names of a path.
-    pub fn take_front(&mut self, path: &Path, front: usize)
-        requires within { front ≤ length path.now }
-        requires takeable { IsTakeable self.old (take front path.now) }
-        requires layer { IsLayer (without self.old (take front path.now)) }
-        ensures { self.new ≡ without self.old (take front path.now) }
-    {
-        let (dir, name) = parent_of(&self.slots, self.root, &path.names()[..front]);
+        let (dir, name) = parent_of(&self.slots, self.root, names);
         take_target(&mut self.slots, &mut self.places, dir, name);
     }
 

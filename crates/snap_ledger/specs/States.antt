@@ -1,5 +1,5 @@
 -- What clauses see of a charge and of a share.
-use Rattle.std.specs.Prelude.{◌≡◌, ℕ, zero, suc, ◌+◌, ◌-◌, ◌^◌, ◌≤◌, List, [], ◌∷◌, ◌++◌, Bool, true, false}
+use Rattle.std.specs.Prelude.{◌≡◌, ℕ, zero, suc, ◌+◌, ◌-◌, List, [], ◌∷◌, ◌++◌, Bool, true, false}
 use Rattle.snap_usage.specs.declared.usage.Usage.{Usage}
 use Rattle.snap_usage.specs.Counted.{Covers, no_usage}
 use Rattle.snap_ledger.specs.declared.rule.Holding.{Holding}
@@ -30,11 +30,6 @@ plus u v = record { blocks = u.blocks + v.blocks; inodes = u.inodes + v.inodes }
 -- what is left of the first usage without the second, quantity by quantity
 abbrev pub minus : Usage → Usage → Usage
 minus u v = record { blocks = u.blocks - v.blocks; inodes = u.inodes - v.inodes }
-
--- neither sum passes 2^40
-pub record SumFits (u v : Usage) : Type 0 where
-  pub blocks : u.blocks + v.blocks ≤ 2 ^ 40
-  pub inodes : u.inodes + v.inodes ≤ 2 ^ 40
 
 -- what the seat of a charge knows
 abbrev pub charge_view : Bool → ℕ → Holding → HalfView

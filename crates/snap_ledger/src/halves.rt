@@ -2,15 +2,15 @@
 ghost use Rattle.std.specs.Prelude.{◌≡◌, ◌<◌, ◌+◌, ◌^◌, [], true, IfOk, OnOk};
 ghost use Rattle.std.specs.Arc.{arc_value};
 ghost use Rattle.snap_ledger.specs.Halves.{maker as maker_of};
-ghost use Rattle.snap_ledger.specs.States.{CoversOne, SumFits, Meets, plus, minus, free_row, free_charge};
-ghost use Rattle.snap_usage.specs.Counted.{Covers, no_usage};
+ghost use Rattle.snap_ledger.specs.States.{CoversOne, Meets, free_row, free_charge};
+ghost use Rattle.snap_usage.specs.Counted.{no_usage};
 
 use crate::rule::{
     HalfView, HalvesTable, Holding, JoinShare, LoadPair, SetHolding, SplitCharge, SplitEmpty,
     SplitShare,
 };
 use atomic_table::{Seat, Table};
-use snap_usage::{Usage, difference};
+use snap_usage::Usage;
 use std::alloc::{AllocError, Global};
 use std::marker::{Brand, Model, PhantomData};
 use std::mem;
@@ -220,31 +220,6 @@ impl<N: StoreName> Charge<N> {
         self.holding = none;
         self.issued = false;
         holding.usage
-    }
-
-    /// Charges more, and lets the writer fill as much more.
-    pub fn grow(&mut self, share: &mut Share<N>, more: Usage)
-        requires slot { share.old.slot ≡ self.old.slot }
-        requires fits { SumFits share.old.usage more }
-        ensures met { Meets self.old share.old }
-        ensures charge { self.new ≡ record self.old { usage = plus self.old.usage more } }
-        ensures share { share.new ≡ record share.old { usage = plus share.old.usage more } }
-    {
-        let held = share.held();
-        self.set(share, held.plus(more))
-    }
-
-    /// Gives a part of the charge back, which the writer can't fill any more.
-    pub fn shrink(&mut self, share: &mut Share<N>, less: Usage)
-        requires slot { share.old.slot ≡ self.old.slot }
-        requires covered { Covers share.old.usage less }
-        requires left { CoversOne (minus share.old.usage less) }
-        ensures met { Meets self.old share.old }
-        ensures charge { self.new ≡ record self.old { usage = minus self.old.usage less } }
-        ensures share { share.new ≡ record share.old { usage = minus share.old.usage less } }
-    {
-        let held = share.held();
-        self.set(share, difference(held, less))
     }
 
     /// What both halves hold.

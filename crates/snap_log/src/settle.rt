@@ -8,6 +8,7 @@ ghost use Rattle.snap_log.specs.Opening.{RefusesFile, FailsFor, IsRefusedFile};
 
 use crate::error::OpenError;
 use crate::scan::Scan;
+use crate::stage::close_gate;
 use sqlite_disk::Disk;
 use std::io;
 
@@ -75,20 +76,6 @@ fn has_gate<D: Disk>(disk: &mut D, len: usize, at: usize) -> io::Result<bool>
     Ok(gate[0] == if at == 0 { b'\0' } else { b' ' })
 }
 
-// Writes the first closed gate of a file of at most one byte.
-fn begin<D: Disk>(disk: &mut D) -> io::Result<()>
-    requires usable { IsTrue (D.Disk.is_usable disk.old) }
-    ensures kept { length (D.Disk.seen disk.old) ≤ 1 → OnOk result (IsDurable [] (D.Disk.seen disk.new) (D.Disk.may_leave disk.new)) }
-    ensures seen { length (D.Disk.seen disk.old) ≤ 1 → length (D.Disk.seen disk.new) ≤ 1 }
-    ensures crash { ((c : List ℕ) → D.Disk.may_leave disk.old c → length c ≤ 1) → (c : List ℕ) → D.Disk.may_leave disk.new c → length c ≤ 1 }
-    ensures faults { CountsFault result (D.Disk.faults disk.old) (D.Disk.faults disk.new) }
-    ensures clean { D.Disk.is_clean disk.new ≡ D.Disk.is_clean disk.old }
-    ensures usable { OnOk result (IsTrue (D.Disk.is_usable disk.new)) }
-{
-    disk.write_at(0, b"\0")?;
-    disk.sync()
-}
-
 // How many bytes the text of a file of this size has, if it is a log; a new one gets its first closed gate.
 fn settle_read<D: Disk>(disk: &mut D, len: usize) -> Result<usize, OpenError>
     requires usable { IsTrue (D.Disk.is_usable disk.old) }
@@ -109,7 +96,7 @@ fn settle_read<D: Disk>(disk: &mut D, len: usize) -> Result<usize, OpenError>
         return Ok(end);
     }
     if len <= 1 {
-        begin(disk)?;
+        close_gate(disk)?;
         return Ok(0);
     }
     if end == 0 {

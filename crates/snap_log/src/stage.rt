@@ -41,6 +41,8 @@ pub(crate) fn close_gate<D: Disk>(disk: &mut D) -> io::Result<()>
     ensures kept { OnOk result (IsDurable [] (D.Disk.seen disk.new) (D.Disk.may_leave disk.new)) }
     ensures crash { (text : List ℕ) → 0 < length text → IsDurable text (D.Disk.seen disk.old) (D.Disk.may_leave disk.old)
         → (c : List ℕ) → D.Disk.may_leave disk.new c → (log_text c ≡ text) ⊎ (log_text c ≡ []) }
+    ensures short { length (D.Disk.seen disk.old) ≤ 1 → length (D.Disk.seen disk.new) ≤ 1 }
+    ensures short_crash { ((c : List ℕ) → D.Disk.may_leave disk.old c → length c ≤ 1) → (c : List ℕ) → D.Disk.may_leave disk.new c → length c ≤ 1 }
     ensures faults { CountsFault result (D.Disk.faults disk.old) (D.Disk.faults disk.new) }
     ensures usable { OnOk result (IsTrue (D.Disk.is_usable disk.new)) }
     ensures clean { D.Disk.is_clean disk.new ≡ D.Disk.is_clean disk.old }

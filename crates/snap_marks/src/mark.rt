@@ -1,6 +1,6 @@
 // The text of a mark, and the sums that it has.
 ghost use Rattle.std.specs.Prelude.{◌≡◌, ◌++◌, ◌∷◌, [], IfOk};
-ghost use Rattle.snap_marks.specs.Marks.{chained, chained_from, chained_lines, continued_text, first_part, is_continued_line, is_mark_line, stem};
+ghost use Rattle.snap_marks.specs.Marks.{chained, chained_from, chained_lines, first_part, is_continued_line, is_mark_line, stem};
 
 use sha2::{Digest, Sha256};
 use std::alloc::{AllocError, Global};
@@ -80,23 +80,5 @@ pub(crate) fn stem(
     let mut text = first_part(alloc, lines)?;
     let sum = hex::encode(alloc, answers.as_slice())?;
     text.extend_from_slice(sum.as_bytes())?;
-    Ok(text)
-}
-
-// A mark from which sums go on.
-pub(crate) fn continued_text(
-    alloc: Global,
-    lines: &[u8; 32],
-    answers: &[u8; 32],
-) -> Result<Vec<u8>, AllocError>
-    ensures { IfOk result (λ text. text.items ≡ continued_text lines.now answers.now) }
-{
-    let mut text = Vec::new(alloc);
-    text.extend_from_slice(b"{\"do\":\"report\",\"lines\":\"\",\"continued\":\"")?;
-    let lines = hex::encode(alloc, lines.as_slice())?;
-    text.extend_from_slice(lines.as_bytes())?;
-    let answers = hex::encode(alloc, answers.as_slice())?;
-    text.extend_from_slice(answers.as_bytes())?;
-    text.extend_from_slice(b"\"}")?;
     Ok(text)
 }

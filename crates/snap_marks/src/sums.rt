@@ -3,7 +3,7 @@ ghost use Rattle.std.specs.Prelude.{◌≡◌, ◌++◌, IfOk, OnErr, OnOk, byte
 ghost use Rattle.snap_marks.specs.Marks.{stem, tail, tail_rebased};
 ghost use Rattle.snap_marks.specs.Sums.{agreed, continued, continued_mark, differing, going_on, marks_agree, mark_behind, mark_compared, next_read, no_sums, passed, rebased, rebased_mark, summed, what_differs};
 
-use crate::mark::{chained, chained_line, chained_lines, continued_text, first_part, stem};
+use crate::mark::{chained, chained_line, chained_lines, first_part, stem};
 use std::alloc::{AllocError, Global};
 
 /// What isn't as a mark has it.
@@ -96,15 +96,6 @@ impl Sums {
         }
     }
 
-    // Whether the line is the mark that stands where lines were added.
-    fn agrees(&self, alloc: Global, mark: &[u8]) -> Result<bool, AllocError>
-        ensures { IfOk result (λ is. is ≡ bytes_eq mark.now (stem self.now.lines self.now.told ++ tail)) }
-    {
-        let mut text = stem(alloc, &self.lines, &self.told)?;
-        text.extend_from_slice(b"\"}")?;
-        Ok(mark == text.as_slice())
-    }
-
     /// The mark by which those before it are not compared any more.
     ///
     /// `AllocError` where memory for its bytes was refused.
@@ -128,30 +119,7 @@ impl Sums {
         Ok(text)
     }
 
-    // The same sums behind this mark, where it agrees.
-    fn agree(&mut self)
-        ensures { self.new ≡ agreed self.old }
-    {
-        self.read = next_read(self.read);
-        self.told = self.answers;
-        self.ends = true;
-        if self.differs.is_none() {
-            self.agreed = self.read;
-        }
-    }
-
-    // And where it begins anew.
-    fn rebase(&mut self)
-        ensures { self.new ≡ rebased self.old }
-    {
-        self.read = next_read(self.read);
-        self.told = self.answers;
-        self.ends = true;
-        self.agreed = self.read;
-        self.differs = None;
-    }
-
-    // And where this differs.
+    // The same sums behind a mark where this differs.
     fn differ(&mut self, what: Differs)
         ensures { self.new ≡ differing self.old what }
     {
@@ -176,11 +144,22 @@ impl Sums {
     {
         let rebased = self.rebased(alloc)?;
         if mark == rebased.as_slice() {
-            self.rebase();
+            self.read = next_read(self.read);
+            self.told = self.answers;
+            self.ends = true;
+            self.agreed = self.read;
+            self.differs = None;
             return Ok(());
         }
-        if self.agrees(alloc, mark)? {
-            self.agree();
+        let mut text = stem(alloc, &self.lines, &self.told)?;
+        text.extend_from_slice(b"\"}")?;
+        if mark == text.as_slice() {
+            self.read = next_read(self.read);
+            self.told = self.answers;
+            self.ends = true;
+            if self.differs.is_none() {
+                self.agreed = self.read;
+            }
             return Ok(());
         }
         let what = self.what_differs(alloc, mark)?;
@@ -194,7 +173,14 @@ impl Sums {
     pub fn continued(&self, alloc: Global) -> Result<Vec<u8>, AllocError>
         ensures { IfOk result (λ mark. mark.items ≡ continued_mark self.now) }
     {
-        continued_text(alloc, &self.lines, &self.answers)
+        let mut text = Vec::new(alloc);
+        text.extend_from_slice(b"{\"do\":\"report\",\"lines\":\"\",\"continued\":\"")?;
+        let lines = hex::encode(alloc, self.lines.as_slice())?;
+        text.extend_from_slice(lines.as_bytes())?;
+        let answers = hex::encode(alloc, self.answers.as_slice())?;
+        text.extend_from_slice(answers.as_bytes())?;
+        text.extend_from_slice(b"\"}")?;
+        Ok(text)
     }
 
     /// Goes on from such a mark, which stands here without its line feed. Takes no memory.

@@ -167,17 +167,9 @@ impl<'a> Stack<'a> {
         // Want of memory never stands for another error.
         ensures first { IfErr (disk_usage self.now path.now) (λ e. result ≡ Err e) }
     {
-        match self.walk_to(path)? {
-            Some(_) => self.taken_below(alloc, path),
-            None => Err(FsError::NotFound),
+        if self.walk_to(path)?.is_none() {
+            return Err(FsError::NotFound);
         }
-    }
-
-    /// The same where something is seen.
-    fn taken_below(&self, alloc: Global, path: &Path) -> Result<Usage, FsError>
-        ensures ok { IfOk result (λ usage. usage ≡ usage_of_parts (parts_below 2048 self.now path.now)) }
-        ensures err { IfErr result (λ e. e ≡ errors.OutOfMemory no_memory) }
-    {
         let mut parts = Vec::new(alloc);
         self.put_below(alloc, path, &mut parts)?;
         Ok(taken_by(alloc, &parts)?)

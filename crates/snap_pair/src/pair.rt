@@ -105,15 +105,6 @@ impl<D: Disk> Pair<D> {
         }
     }
 
-    /// The two files. Takes no memory, and calls no disk.
-    pub fn into_disks(self) -> (D, D)
-        ensures first { result.0 ≡ first_of self }
-        ensures second { result.1 ≡ second_of self }
-    {
-        let Pair { first, second } = self;
-        (first.into_disk(), second.into_disk())
-    }
-
     /// Adds whole lines behind those that count, as one: a crash at any moment leaves all of them or none.
     ///
     /// As [`Log::append`] of the file that counts.
@@ -194,10 +185,10 @@ impl<D: Disk> Pair<D> {
     {
         let Pair { first, second } = self;
         if second.is_empty() {
-            return Ok(Replacing::in_second(first, second));
+            return Ok(Replacing::begin(first, second, true));
         }
         match first.clear() {
-            Ok(first) => Ok(Replacing::in_first(first, second)),
+            Ok(first) => Ok(Replacing::begin(second, first, false)),
             Err(ClearFailed { disk, error }) => Err(ReplaceFailed {
                 first: disk,
                 second: second.into_disk(),

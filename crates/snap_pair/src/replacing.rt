@@ -1,5 +1,5 @@
 //! Lines that are to take the place of all others.
-ghost use Rattle.std.specs.Prelude.{◌≡◌, ◌⊎◌, ◌+◌, ◌<◌, ◌≤◌, ◌^◌, ℕ, false, List, [], ◌++◌, length, IfOk, IfErr, OnErr, OnOk, IsTrue};
+ghost use Rattle.std.specs.Prelude.{◌≡◌, ◌⊎◌, ◌+◌, ◌<◌, ◌≤◌, ◌^◌, ℕ, false, List, [], ◌++◌, length, if◌then◌else◌, IfOk, IfErr, OnErr, OnOk, IsTrue};
 ghost use Rattle.snap_log.specs.Log.{IsHonest, disk_of, text_in};
 ghost use Rattle.snap_log.specs.Staged.{IsHonestStage, lines_staged, text_before};
 ghost use Rattle.snap_log.specs.Texts.{AreLines};
@@ -69,38 +69,21 @@ impl<D: Disk> Replacing<D> {
     ghost use Rattle.snap_pair.specs.Pair.{ArePairHonest, AreHonestAfter, IfPairNotKept, OneFailed, PairKeeps, first_after, first_of, second_after, second_of};
     ghost use Rattle.snap_pair.specs.Replacing.{AreHonestAdding, ArePartsHonest, AreReplacingHonest, LeavesCounting, first_apart, first_in, lines_coming, lines_counting, second_apart, second_in};
 
-    // Lines are to take the place of those that count, which stand in the first file.
-    pub(crate) fn in_second(first: Log<D>, second: Log<D>) -> Replacing<D>
-        requires none { IsHonest second → text_in second ≡ [] }
-        ensures counting { lines_counting result ≡ text_in first }
+    // Lines are to take the place of those that count, which the other file gets.
+    pub(crate) fn begin(counting: Log<D>, other: Log<D>, is_second: bool) -> Replacing<D>
+        requires none { IsHonest other → text_in other ≡ [] }
+        requires some { IsHonest counting → is_second ≡ false → 0 < length (text_in counting) }
+        ensures counting { lines_counting result ≡ text_in counting }
         ensures none { lines_coming result ≡ [] }
-        ensures honest { AreReplacingHonest result → IsHonest first × IsHonest second }
+        ensures honest { AreReplacingHonest result → IsHonest counting × IsHonest other }
         ensures crash { AreReplacingHonest result → LeavesCounting result }
-        ensures first { first_in result ≡ disk_of first }
-        ensures second { second_in result ≡ disk_of second }
+        ensures first { first_in result ≡ (if is_second then disk_of counting else disk_of other) }
+        ensures second { second_in result ≡ (if is_second then disk_of other else disk_of counting) }
     {
         Replacing {
-            counting: first,
-            coming: second.begin_append(),
-            is_second: true,
-        }
-    }
-
-    // Those that count stand in the second one.
-    pub(crate) fn in_first(first: Log<D>, second: Log<D>) -> Replacing<D>
-        requires none { IsHonest first → text_in first ≡ [] }
-        requires some { IsHonest second → 0 < length (text_in second) }
-        ensures counting { lines_counting result ≡ text_in second }
-        ensures none { lines_coming result ≡ [] }
-        ensures honest { AreReplacingHonest result → IsHonest first × IsHonest second }
-        ensures crash { AreReplacingHonest result → LeavesCounting result }
-        ensures first { first_in result ≡ disk_of first }
-        ensures second { second_in result ≡ disk_of second }
-    {
-        Replacing {
-            counting: second,
-            coming: first.begin_append(),
-            is_second: false,
+            counting,
+            coming: other.begin_append(),
+            is_second,
         }
     }
 

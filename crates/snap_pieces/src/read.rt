@@ -16,22 +16,6 @@ use snap_json::Value;
 use snap_saved::Piece;
 use std::alloc::Global;
 
-fn read_namespace(alloc: Global, line: &Value<'_>) -> Result<Namespace, LineError>
-    ensures { GivesLine result (namespace_read (view line.now)) }
-{
-    let name = text(alloc, LineField::Name, line)?;
-    let limit = usage(line)?;
-    Ok(Namespace { name, limit })
-}
-
-fn read_label(alloc: Global, line: &Value<'_>) -> Result<StorePiece, LineError>
-    ensures { GivesLine result (label_read (view line.now)) }
-{
-    let key = text(alloc, LineField::Key, line)?;
-    let value = text(alloc, LineField::Value, line)?;
-    Ok(StorePiece::Label { key, value })
-}
-
 fn read_lease(alloc: Global, line: &Value<'_>) -> Result<StorePiece, LineError>
     ensures { GivesLine result (lease_read (view line.now)) }
 {
@@ -56,11 +40,19 @@ fn read_word(alloc: Global, word: Word, line: &Value<'_>) -> Result<Line, LineEr
             return Ok(Line::End { lines });
         }
         Word::File => StorePiece::Layer(read_file(line)?),
-        Word::Label => read_label(alloc, line)?,
+        Word::Label => {
+            let key = text(alloc, LineField::Key, line)?;
+            let value = text(alloc, LineField::Value, line)?;
+            StorePiece::Label { key, value }
+        }
         Word::Lease => read_lease(alloc, line)?,
         Word::Leased => StorePiece::Leased(text(alloc, LineField::Name, line)?),
         Word::Name => StorePiece::Layer(Piece::Name(path(alloc, LineField::Path, line)?)),
-        Word::Namespace => StorePiece::Namespace(read_namespace(alloc, line)?),
+        Word::Namespace => {
+            let name = text(alloc, LineField::Name, line)?;
+            let limit = usage(line)?;
+            StorePiece::Namespace(Namespace { name, limit })
+        }
         Word::Sized => StorePiece::Layer(read_sized(alloc, line)?),
         Word::Snapshot => StorePiece::Snapshot(read_snapshot(alloc, line)?),
         Word::Store => return Ok(Line::Head(read_head(alloc, line)?)),

@@ -89,25 +89,15 @@ pub(crate) fn path(alloc: Global, field: LineField, line: &Value<'_>) -> Result<
     }
 }
 
-/// The bytes of hexadecimal digits, or none where the text has others.
-fn decoded(alloc: Global, text: &str) -> Result<Option<Vec<u8>>, AllocError>
-    ensures { IfOk result (λ bytes. option_map (λ v. v.items) bytes ≡ result_ok (decode_of text.now)) }
-{
-    let mut bytes = vec![in alloc; 0; text.len() / 2]?;
-    match hex::decode_to_slice(text.as_bytes(), bytes.as_mut_slice()) {
-        Ok(()) => Ok(Some(bytes)),
-        Err(_) => Ok(None),
-    }
-}
-
 /// Bytes.
 pub(crate) fn bytes(alloc: Global, field: LineField, line: &Value<'_>) -> Result<Bytes, LineError>
     ensures { GivesLine result (bytes_read field (view line.now)) }
 {
     let text = lent_text(field, line)?;
-    match decoded(alloc, text)? {
-        Some(bytes) => Ok(Bytes::new(bytes)),
-        None => Err(LineError::BadField(field)),
+    let mut bytes = vec![in alloc; 0; text.len() / 2]?;
+    match hex::decode_to_slice(text.as_bytes(), bytes.as_mut_slice()) {
+        Ok(()) => Ok(Bytes::new(bytes)),
+        Err(_) => Err(LineError::BadField(field)),
     }
 }
 

@@ -151,7 +151,11 @@ impl Labels {
     {
         let alloc = self.allocator();
         if let Some((key, value)) = first_malformed(self.list.as_slice()) {
-            *self = cut_label(alloc, key, value)?;
+            let key = key.cut_copy(MAX_LABEL_BYTES)?;
+            let value = value.cut_copy(MAX_LABEL_BYTES)?;
+            let mut labels = Labels::new(alloc);
+            labels.insert(key, value)?;
+            *self = labels;
         }
         Ok(())
     }
@@ -185,18 +189,6 @@ fn first_malformed(labels: &[(Text, Text)]) -> Option<&(Text, Text)>
     labels
         .iter()
         .find(|(key, value)| !is_label(key.as_str(), value.as_str()))
-}
-
-/// The label alone, cut.
-fn cut_label(alloc: Global, key: &Text, value: &Text) -> Result<Labels, AllocError>
-    ensures { IfOk result (λ labels. labels ≡ cut_label (key.now, value.now)) }
-{
-    let mut labels = Labels::new(alloc);
-    labels.insert(
-        key.cut_copy(MAX_LABEL_BYTES)?,
-        value.cut_copy(MAX_LABEL_BYTES)?,
-    )?;
-    Ok(labels)
 }
 
 /// Whether these can be a snapshot's label: a key of at least 1 byte, and at most 4096 bytes together. Takes no memory.

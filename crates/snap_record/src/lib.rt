@@ -19,6 +19,4 @@ pub use labels::{Labels, MAX_LABEL_BYTES, MAX_LABELS, is_label};
 pub use record::{Content, Record};
 pub use sequence::Sequence;
 pub use text::Text;
-pub use update::{
-    cut_update, is_well_formed, named_key, replaces_all, update_labels, updated_labels,
-};
+pub use update::{cut_update, is_well_formed, named_key, replaces_all, updated_labels};

@@ -14,27 +14,6 @@ use std::alloc::{AllocError, Global};
 /// A path of more bytes names no label: `labels.` has 7, and a label's key at most 4096.
 const MAX_PATH_BYTES: usize = 7 + MAX_LABEL_BYTES;
 
-/// Updates labels as containerd's `Update` does with its field paths.
-///
-/// With no path, or with the path `labels` among them, the given labels replace all. Otherwise each
-/// path `labels.x` gives the label x its given value, or removes it where none is given: a key that
-/// is there keeps its place, a new one goes last, and a removal closes up. A given value may be empty, and then
-/// stays; containerd leaves labels with an empty value out.
-///
-/// `BadLabels`: a path of another form, an x of no bytes, or a given label without a label's form,
-/// whether a path takes it or not; or a result of more than 64 labels. `OutOfMemory`: memory was
-/// wanting, for a copy of the labels or of a path's key. Either leaves the labels as they were. Its
-/// cost grows with the paths times all labels, and with the bytes of the copies.
-pub fn update_labels(labels: &mut Labels, given: &Labels, paths: &[Text]) -> Result<(), LabelsError>
-    ensures ok { OnOk result (labels.new ≡ updated labels.old given.now paths.now) }
-    ensures bad { IsErrOf result LabelsError.BadLabels
-        ↔ (is_granted labels.old given.now paths.now ≡ false) }
-    ensures err { OnErr result (labels.new ≡ labels.old) }
-{
-    *labels = updated_labels(labels, given, paths)?;
-    Ok(())
-}
-
 /// Whether an update can be asked for, whatever labels it is made of: each given label and each
 /// path has its form, and where the given labels replace all, there are at most 64 of them. Takes
 /// no memory.
@@ -156,18 +135,17 @@ fn added_len(labels: &Labels, given: &Labels, paths: &[Text]) -> usize
         .count()
 }
 
-fn updated(labels: &Labels, given: &Labels, paths: &[Text]) -> Result<Labels, AllocError>
-    ensures { IfOk result (λ next. next ≡ updated labels.now given.now paths.now) }
-{
-    if replaces_all(paths) {
-        given.clone()
-    } else {
-        with_named(labels, given, paths)
-    }
-}
-
-/// The labels that [`update_labels`] makes of these, which stay as they are. The errors and the cost
-/// are its.
+/// The labels that containerd's `Update` makes of these with its field paths; these stay as they are.
+///
+/// With no path, or with the path `labels` among them, the given labels replace all. Otherwise each
+/// path `labels.x` gives the label x its given value, or removes it where none is given: a key that
+/// is there keeps its place, a new one goes last, and a removal closes up. A given value may be empty, and then
+/// stays; containerd leaves labels with an empty value out.
+///
+/// `BadLabels`: a path of another form, an x of no bytes, or a given label without a label's form,
+/// whether a path takes it or not; or a result of more than 64 labels. `OutOfMemory`: memory was
+/// wanting, for a copy of the labels or of a path's key. Its cost grows with the paths times all labels, and with
+/// the bytes of the copies.
 pub fn updated_labels(
     labels: &Labels,
     given: &Labels,
@@ -180,7 +158,11 @@ pub fn updated_labels(
     if !is_granted(labels, given, paths) {
         return Err(LabelsError::BadLabels);
     }
-    Ok(updated(labels, given, paths)?)
+    if replaces_all(paths) {
+        Ok(given.clone()?)
+    } else {
+        Ok(with_named(labels, given, paths)?)
+    }
 }
 
 fn with_named(labels: &Labels, given: &Labels, paths: &[Text]) -> Result<Labels, AllocError>

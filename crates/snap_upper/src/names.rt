@@ -201,29 +201,9 @@ fn put_shifted_copy(
         return Ok(());
     };
     layer.add_whiteout(from)?;
-    if let Err(error) = put_body(layer, to, body) {
+    if let Err(error) = layer.add_body(to, body) {
         layer.take_name(from);
-        return Err(error);
-    }
-    Ok(())
-}
-
-/// Puts a new file or symlink, which gets the next number, in place of what stands at the path.
-fn put_body(layer: &mut Layer, path: &Path, body: Body) -> Result<(), FsError>
-    requires place { HasPlace layer.old path.now }
-    requires fits { IsBody body }
-    ensures ok { OnOk result (layer.new ≡ with_new layer.old path.now (leaf_node layer.old.next body) body) }
-    ensures layer { OnOk result (IsLayer layer.new) }
-    ensures error { IfErr result (λ e. IsRefusal (with_new layer.old path.now (leaf_node layer.old.next body) body) e) }
-    ensures unchanged { OnErr result (layer.new ≡ layer.old) }
-{
-    match body {
-        Body::File { meta, content } => {
-            layer.add_file(path, meta, content)?;
-        }
-        Body::Symlink { target } => {
-            layer.add_symlink(path, target)?;
-        }
+        return Err(FsError::from(error));
     }
     Ok(())
 }

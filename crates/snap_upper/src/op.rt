@@ -115,12 +115,21 @@ impl Clone for Op {
                 mode,
                 size,
                 digest,
-            } => clone_put(path, *mode, *size, digest)?,
+            } => Op::Put {
+                path: path.clone()?,
+                mode: *mode,
+                size: *size,
+                digest: digest.clone()?,
+            },
             Op::Write {
                 path,
                 offset,
                 bytes,
-            } => clone_write(path, *offset, bytes)?,
+            } => Op::Write {
+                path: path.clone()?,
+                offset: *offset,
+                bytes: bytes.clone()?,
+            },
             Op::Truncate { path, size } => Op::Truncate {
                 path: path.clone()?,
                 size: *size,
@@ -129,15 +138,24 @@ impl Clone for Op {
                 path: path.clone()?,
                 mode: *mode,
             },
-            Op::Symlink { path, target } => clone_symlink(path, target)?,
-            Op::Link { from, to } => clone_link(from, to)?,
+            Op::Symlink { path, target } => Op::Symlink {
+                path: path.clone()?,
+                target: target.clone()?,
+            },
+            Op::Link { from, to } => Op::Link {
+                from: from.clone()?,
+                to: to.clone()?,
+            },
             Op::Unlink { path } => Op::Unlink {
                 path: path.clone()?,
             },
             Op::Rmdir { path } => Op::Rmdir {
                 path: path.clone()?,
             },
-            Op::Rename { from, to } => clone_rename(from, to)?,
+            Op::Rename { from, to } => Op::Rename {
+                from: from.clone()?,
+                to: to.clone()?,
+            },
             Op::Opaque { path } => Op::Opaque {
                 path: path.clone()?,
             },
@@ -146,52 +164,4 @@ impl Clone for Op {
             },
         })
     }
-}
-
-fn clone_put(path: &Path, mode: u32, size: u64, digest: &Option<Bytes>) -> Result<Op, AllocError>
-    ensures { IfOk result (λ copy. copy ≡ op.Put path.now mode size digest.now) }
-{
-    Ok(Op::Put {
-        path: path.clone()?,
-        mode,
-        size,
-        digest: digest.clone()?,
-    })
-}
-
-fn clone_write(path: &Path, offset: u64, bytes: &Bytes) -> Result<Op, AllocError>
-    ensures { IfOk result (λ copy. copy ≡ op.Write path.now offset bytes.now) }
-{
-    Ok(Op::Write {
-        path: path.clone()?,
-        offset,
-        bytes: bytes.clone()?,
-    })
-}
-
-fn clone_symlink(path: &Path, target: &Bytes) -> Result<Op, AllocError>
-    ensures { IfOk result (λ copy. copy ≡ op.Symlink path.now target.now) }
-{
-    Ok(Op::Symlink {
-        path: path.clone()?,
-        target: target.clone()?,
-    })
-}
-
-fn clone_link(from: &Path, to: &Path) -> Result<Op, AllocError>
-    ensures { IfOk result (λ copy. copy ≡ op.Link from.now to.now) }
-{
-    Ok(Op::Link {
-        from: from.clone()?,
-        to: to.clone()?,
-    })
-}
-
-fn clone_rename(from: &Path, to: &Path) -> Result<Op, AllocError>
-    ensures { IfOk result (λ copy. copy ≡ op.Rename from.now to.now) }
-{
-    Ok(Op::Rename {
-        from: from.clone()?,
-        to: to.clone()?,
-    })
 }

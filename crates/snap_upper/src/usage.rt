@@ -65,12 +65,13 @@ pub(crate) fn weigh(
     requires ready { IsReady change layer.now lowers.now }
     ensures { result ≡ planned (outcome change.entry layer.now lowers.now) }
 {
+    let after = count(layer);
     match change {
-        Change::Nothing => Ok(counted(layer)),
+        Change::Nothing => Ok(Planned { after }),
         Change::Put { path, new } => plan_growth(layer, path, new.blocks(), new.is_numbered()),
         Change::Fill { number, size, edit } => plan_filling(layer, number, size, edit),
-        Change::SetMode { path, mode } => Ok(counted_with_mode(layer, path, mode)),
-        Change::SetOpaque { path } => Ok(counted_opaque(layer, path)),
+        Change::SetMode { .. } => Ok(Planned { after }),
+        Change::SetOpaque { .. } => Ok(Planned { after }),
         Change::Erase { path, covers } => plan_erasing(layer, path, covers),
         Change::EraseTree { path, covers } => Ok(counted_without(layer, path, covers)),
         Change::Link { from, to } => plan_link(layer, lowers, from, to),
@@ -81,33 +82,6 @@ pub(crate) fn weigh(
             ..
         } => plan_move(layer, lowers, from, to, leaves),
     }
-}
-
-/// What the layer takes.
-fn counted(layer: &Layer) -> Planned
-    ensures { Ok result ≡ planned (Ok layer.now) }
-{
-    let after = count(layer);
-    Planned { after }
-}
-
-/// What the layer takes, which a mode doesn't change.
-fn counted_with_mode(layer: &Layer, path: &Path, mode: u32) -> Planned
-    requires there { HasMode (at layer.now path.now) }
-    requires low { mode ≤ most_mode }
-    ensures { Ok result ≡ planned (limited (with_mode layer.now path.now (at layer.now path.now) mode)) }
-{
-    let after = count(layer);
-    Planned { after }
-}
-
-/// What the layer takes, which a directory's mark doesn't change.
-fn counted_opaque(layer: &Layer, path: &Path) -> Planned
-    requires { IsDirAt (at layer.now path.now) }
-    ensures { Ok result ≡ planned (limited (with_opaque layer.now path.now (at layer.now path.now) true)) }
-{
-    let after = count(layer);
-    Planned { after }
 }
 
 /// What the layer takes without its directory at the path and all that is in it. A whiteout is put there where `covers`
@@ -247,19 +221,12 @@ fn last_blocks(layer: &Layer, number: u32) -> u64
     ensures { result ≡ last_blocks layer.now number }
 {
     if layer.link_count(number) == 1 {
-        return file_blocks(layer, number);
+        return match layer.body(number) {
+            Some(body) => body.blocks(),
+            None => 0,
+        };
     }
     0
-}
-
-/// The blocks of the file or symlink with the number.
-fn file_blocks(layer: &Layer, number: u32) -> u64
-    ensures { result ≡ weight_of (body layer.now number) }
-{
-    match layer.body(number) {
-        Some(body) => body.blocks(),
-        None => 0,
-    }
 }
 
 /// How much the layer takes where what takes these blocks, and a file number where `numbered` says so,

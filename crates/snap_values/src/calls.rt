@@ -1,11 +1,11 @@
 //! The line of a script that makes a call.
-ghost use Rattle.std.specs.Prelude.{◌≡◌, [], None, IfOk, OnOk};
-ghost use Rattle.serde_json.specs.Data.{object, string};
+ghost use Rattle.std.specs.Prelude.{◌≡◌, [], None, IfOk, OnOk, codes};
+ghost use Rattle.serde_json.specs.Data.{member, object, string};
 ghost use Rattle.snap_call.specs.declared.call.Call.TheVariants as calls;
 ghost use Rattle.snap_json.specs.Tokens.{with_members, with_value};
 ghost use Rattle.snap_record.specs.Kinds.{kind_word};
 ghost use Rattle.snap_values.specs.Calls.{call_line, wanted_data, wanted_members};
-ghost use Rattle.snap_values.specs.WrittenCalls.{ends, held_line, limited_line, named_line, new_line, ordered_data};
+ghost use Rattle.snap_values.specs.WrittenCalls.{ends, held_line, limited_line, new_line, ordered_data, word_data};
 
 use crate::to_json::{ToJson, maybe, member};
 use snap_call::Call;
@@ -74,20 +74,21 @@ fn held(
     end(alloc, out, namespace, session)
 }
 
-/// A call on a snapshot by its key.
+/// A call on a snapshot by its key, or on a lease by its name, which is the member of this name.
 fn named(
     alloc: Global,
     out: &mut Writer,
     call: CallKind,
     namespace: &Text,
     session: u64,
-    key: &Text,
+    field: &str,
+    name: &Text,
 ) -> Result<(), AllocError>
-    ensures { OnOk result (out.new ≡ with_value (named_line call namespace.now session key.now) out.old) }
+    ensures { OnOk result (out.new ≡ with_value (object (member (codes "do") (word_data call) (member field.now (string name.now) (ends namespace.now session)))) out.old) }
 {
     out.token(Token::BeginObject)?;
     member(alloc, out, "do", &call.as_str())?;
-    member(alloc, out, "key", key)?;
+    member(alloc, out, field, name)?;
     end(alloc, out, namespace, session)
 }
 
@@ -232,19 +233,6 @@ fn limited(
     end(alloc, out, namespace, session)
 }
 
-fn namespace_remove(
-    alloc: Global,
-    out: &mut Writer,
-    namespace: &Text,
-    session: u64,
-) -> Result<(), AllocError>
-    ensures { OnOk result (out.new ≡ with_value (ordered_data [] session None (calls.NamespaceRemove namespace.now)) out.old) }
-{
-    out.token(Token::BeginObject)?;
-    member(alloc, out, "do", &CallKind::NamespaceRemove.as_str())?;
-    end(alloc, out, namespace, session)
-}
-
 #[tactic(auto, using(crate::proofs::Maps::with_members_maybe))]
 fn lease_create(
     alloc: Global,
@@ -265,52 +253,22 @@ fn lease_create(
     out.token(Token::EndObject)
 }
 
-fn lease_add(
+/// A call on a lease and a name that it has, or is to have.
+fn leased(
     alloc: Global,
     out: &mut Writer,
+    call: CallKind,
     namespace: &Text,
     session: u64,
     lease: &Text,
     name: &Text,
 ) -> Result<(), AllocError>
-    ensures { OnOk result (out.new ≡ with_value (ordered_data [] session None (calls.LeaseAdd namespace.now lease.now name.now)) out.old) }
+    ensures { OnOk result (out.new ≡ with_value (object (member (codes "do") (word_data call) (member (codes "lease") (string lease.now) (member (codes "name") (string name.now) (ends namespace.now session))))) out.old) }
 {
     out.token(Token::BeginObject)?;
-    member(alloc, out, "do", &CallKind::LeaseAdd.as_str())?;
+    member(alloc, out, "do", &call.as_str())?;
     member(alloc, out, "lease", lease)?;
     member(alloc, out, "name", name)?;
-    end(alloc, out, namespace, session)
-}
-
-fn lease_drop(
-    alloc: Global,
-    out: &mut Writer,
-    namespace: &Text,
-    session: u64,
-    lease: &Text,
-    name: &Text,
-) -> Result<(), AllocError>
-    ensures { OnOk result (out.new ≡ with_value (ordered_data [] session None (calls.LeaseDrop namespace.now lease.now name.now)) out.old) }
-{
-    out.token(Token::BeginObject)?;
-    member(alloc, out, "do", &CallKind::LeaseDrop.as_str())?;
-    member(alloc, out, "lease", lease)?;
-    member(alloc, out, "name", name)?;
-    end(alloc, out, namespace, session)
-}
-
-fn lease_release(
-    alloc: Global,
-    out: &mut Writer,
-    namespace: &Text,
-    session: u64,
-    lease: &Text,
-) -> Result<(), AllocError>
-    ensures { OnOk result (out.new ≡ with_value (ordered_data [] session None (calls.LeaseRelease namespace.now lease.now)) out.old) }
-{
-    out.token(Token::BeginObject)?;
-    member(alloc, out, "do", &CallKind::LeaseRelease.as_str())?;
-    member(alloc, out, "lease", lease)?;
     end(alloc, out, namespace, session)
 }
 
@@ -381,10 +339,42 @@ fn write_call(
             ..
         } => commit(alloc, out, own, n, key, name, lease, labels),
         Call::Discard { .. } => held(alloc, out, CallKind::Discard, own, n, key),
-        Call::Remove { namespace, key } => named(alloc, out, CallKind::Remove, namespace, n, key),
-        Call::Stat { namespace, key } => named(alloc, out, CallKind::Stat, namespace, n, key),
-        Call::Usage { namespace, key } => named(alloc, out, CallKind::Usage, namespace, n, key),
-        Call::Mounts { namespace, key } => named(alloc, out, CallKind::Mounts, namespace, n, key),
+        Call::Remove { namespace, key } => named(
+            alloc,
+            out,
+            CallKind::Remove,
+            namespace,
+            n,
+            "key",
+            key,
+        ),
+        Call::Stat { namespace, key } => named(
+            alloc,
+            out,
+            CallKind::Stat,
+            namespace,
+            n,
+            "key",
+            key,
+        ),
+        Call::Usage { namespace, key } => named(
+            alloc,
+            out,
+            CallKind::Usage,
+            namespace,
+            n,
+            "key",
+            key,
+        ),
+        Call::Mounts { namespace, key } => named(
+            alloc,
+            out,
+            CallKind::Mounts,
+            namespace,
+            n,
+            "key",
+            key,
+        ),
         Call::Update {
             namespace,
             key,
@@ -403,7 +393,14 @@ fn write_call(
         Call::NamespaceCreate { namespace, limit } => {
             limited(alloc, out, CallKind::NamespaceCreate, namespace, n, *limit)
         }
-        Call::NamespaceRemove { namespace } => namespace_remove(alloc, out, namespace, n),
+        Call::NamespaceRemove { namespace } => held(
+            alloc,
+            out,
+            CallKind::NamespaceRemove,
+            namespace,
+            n,
+            &None,
+        ),
         Call::LeaseCreate {
             namespace,
             lease,
@@ -413,13 +410,21 @@ fn write_call(
             namespace,
             lease,
             name,
-        } => lease_add(alloc, out, namespace, n, lease, name),
+        } => leased(alloc, out, CallKind::LeaseAdd, namespace, n, lease, name),
         Call::LeaseDrop {
             namespace,
             lease,
             name,
-        } => lease_drop(alloc, out, namespace, n, lease, name),
-        Call::LeaseRelease { namespace, lease } => lease_release(alloc, out, namespace, n, lease),
+        } => leased(alloc, out, CallKind::LeaseDrop, namespace, n, lease, name),
+        Call::LeaseRelease { namespace, lease } => named(
+            alloc,
+            out,
+            CallKind::LeaseRelease,
+            namespace,
+            n,
+            "lease",
+            lease,
+        ),
         Call::Sweep { namespace, moment } => sweep(alloc, out, namespace, n, *moment),
     }
 }

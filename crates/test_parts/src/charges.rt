@@ -16,11 +16,11 @@ fn both_halves_move_alike<N: StoreName>(charge: &mut Charge<N>)
     let mut share = charge.issue(7, usage(1, 1));
     let id = share.id();
     prove!(id == 7);
-    charge.grow(&mut share, usage(3, 2));
+    charge.set(&mut share, usage(4, 3));
     let (held, charged) = (share.held(), charge.held());
     prove!(held.blocks == 4 && held.inodes == 3);
     prove!(charged.blocks == 4 && charged.inodes == 3);
-    charge.shrink(&mut share, usage(2, 1));
+    charge.set(&mut share, usage(2, 2));
     let met = charge.meet(&mut share);
     prove!(met.blocks == 2 && met.inodes == 2);
     let back = charge.spend(share);

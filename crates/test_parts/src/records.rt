@@ -3,7 +3,7 @@ ghost use Rattle.std.specs.Prelude.{◌≡◌, ◌∷◌, []};
 
 use crate::setup::{equal, text, usage};
 use snap_record::{
-    Content, Filter, Info, Kind, LabelFilter, Labels, Sequence, Text, matches, update_labels,
+    Content, Filter, Info, Kind, LabelFilter, Labels, Sequence, Text, matches, updated_labels,
 };
 use std::alloc::Global;
 use std::process::Abort;
@@ -50,12 +50,11 @@ fn a_label_is_removed(rt: HostRuntime) {
 // What an update makes of labels is computed beside the definition; this one is made.
 #[test]
 fn an_update_is_made(rt: HostRuntime) {
-    let mut labels = one_label(&rt, rt.alloc(), "y", "2");
+    let labels = one_label(&rt, rt.alloc(), "y", "2");
     let path = [text(&rt, rt.alloc(), "labels.x")];
     let given = one_label(&rt, rt.alloc(), "x", "9");
-    let made = update_labels(&mut labels, &given, &path);
-    made.expect(&rt, "memory for labels");
-    equal(&rt, labels.len(), 2);
+    let made = updated_labels(&labels, &given, &path);
+    equal(&rt, made.expect(&rt, "memory for labels").len(), 2);
 }
 
 /// A view `q` with the label `x`.

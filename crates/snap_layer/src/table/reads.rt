@@ -7,7 +7,7 @@ ghost use Rattle.std.specs.Map.{keys_of, values_of};
 ghost use Rattle.std.specs.Ordering.{nat_cmp};
 ghost use Rattle.snap_path.specs.Limits.{most_path_bytes};
 ghost use Rattle.snap_path.specs.Text.{Names, text_of, text_below};
-ghost use Rattle.snap_layer.specs.Tree.{Entries, at, has_number, is_dir, is_whiteout, names_below, IsDirAt};
+ghost use Rattle.snap_layer.specs.Tree.{Entries, at, is_dir, is_whiteout, names_below, IsDirAt};
 ghost use Rattle.snap_layer.specs.Counts.{body_blocks, dir_count, name_count, whiteout_count};
 ghost use Rattle.snap_layer.specs.Edits.{bodies_unnamed, inside, outside, IsFree};
 ghost use Rattle.snap_layer.specs.Ended.{ended, met_of, AreMet};
@@ -44,16 +44,6 @@ fn is_directory(node: Option<Node>) -> bool
 {
     match node {
         Some(node) => node.is_dir(),
-        None => false,
-    }
-}
-
-/// Whether the node names the file number.
-fn has_number(node: Node, number: u32) -> bool
-    ensures { result ≡ has_number number node }
-{
-    match node.number() {
-        Some(own) => own == number,
         None => false,
     }
 }
@@ -136,7 +126,7 @@ fn names_of_rows<const ROOM: usize>(
             return Ok(names);
         }
         left -= 1;
-        names += usize::from(has_number(row.node, number));
+        names += usize::from(row.node.has_number(number));
     }
     Ok(names)
 }
@@ -177,7 +167,7 @@ impl Table {
     }
 
     /// What stands at the path of the names.
-    pub(super) fn node_at(&self, names: &[Name]) -> Option<Node>
+    pub(crate) fn node_at(&self, names: &[Name]) -> Option<Node>
         ensures { result ≡ at self.now names.now }
     {
         stands(&self.slots, self.root, names)

@@ -49,13 +49,6 @@ fn is_next(row: &Row<'_>, others: &mut Rows<'_, MOST_FRAMES>) -> bool
     }
 }
 
-/// Whether the walk has no more entries.
-fn is_over(rows: &mut Rows<'_, MOST_FRAMES>) -> bool
-    ensures { IsTrue result ↔ (rows.old.rest ≡ []) }
-{
-    rows.next().is_none()
-}
-
 /// Whether both bodies are the same.
 fn is_same_body(body: Option<&Body>, other: Option<&Body>) -> bool
     ensures { IsTrue result ↔ (option_copied body.entry ≡ option_copied other.entry) }
@@ -108,7 +101,7 @@ impl Table {
                 return false;
             }
         }
-        is_over(&mut others)
+        others.next().is_none()
     }
 
     /// Whether the bodies are the same.
@@ -116,13 +109,6 @@ impl Table {
         ensures { IsTrue result ↔ (self.now.bodies ≡ other.now.bodies) }
     {
         has_same_bodies(&self.slots, &self.places, &other.slots, &other.places)
-    }
-
-    /// Whether the next numbers are the same.
-    fn has_next_of(&self, other: &Table) -> bool
-        ensures { IsTrue result ↔ (self.now.next ≡ other.now.next) }
-    {
-        self.next_number() == other.next_number()
     }
 
     /// Whether the entries, the bodies, the next numbers and the most inodes are the same.
@@ -138,9 +124,9 @@ impl Table {
         if !self.has_bodies_of(other) {
             return false;
         }
-        if !self.has_next_of(other) {
+        if self.next != other.next {
             return false;
         }
-        self.most_inodes() == other.most_inodes()
+        self.most == other.most
     }
 }

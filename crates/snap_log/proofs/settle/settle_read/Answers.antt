@@ -26,5 +26,4 @@ pub returns-then-len-le1-clause-kept : goal.returns-then-len-le1-clause-kept
 returns-then-len-le1-clause-kept g c = λ clean is.
     let file : List ℕ = g.D.Disk.seen c.args.disk.now in
     let low : length file ≤ 1 = omega arith in
-    let was : length (g.D.Disk.seen c.has_gate.new.disk) ≤ 1 = subst (λ (f : List ℕ). length f ≤ 1) (sym (c.has_gate.ensures.seen ∙ c.text_len.ensures.seen)) low in
-    begun file _ _ low (c.in_ok-begin.ensures.kept was)
+    begun file _ _ low c.in_ok-close_gate.ensures.kept

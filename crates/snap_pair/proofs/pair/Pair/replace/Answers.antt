@@ -8,18 +8,18 @@ use Rattle.snap_pair.proofs.pair.Pair.replace.Goals as goal
 
 pub returns-then-is_empty-clause-crash : goal.returns-then-is_empty-clause-crash
 returns-then-is_empty-clause-crash g c = λ both f h left right.
-    let replacing = c.in_second.result in
+    let replacing = c.begin.result in
     let honest = honest_in replacing both in
-    let own : IsHonest c.args.self.second = (c.in_second.ensures.honest honest).1 in
-    c.in_second.ensures.crash honest f h left right ∙ c.in_second.ensures.counting
+    let own : IsHonest c.args.self.second = (c.begin.ensures.honest honest).1 in
+    c.begin.ensures.crash honest f h left right ∙ c.begin.ensures.counting
     ∙ sym (first_counts (text_in c.args.self.first) (text_in c.args.self.second) (c.if-is_empty.ensures.none own refl))
 
 pub returns-in-Ok-clause-crash : goal.returns-in-Ok-clause-crash
 returns-in-Ok-clause-crash g c = λ both f h left right.
-    let replacing = c.in_first.result in
+    let replacing = c.begin-in-Ok.result in
     let honest = honest_in replacing both in
-    let own : IsHonest c.args.self.second = (c.in_first.ensures.honest honest).1 in
-    c.in_first.ensures.crash honest f h left right ∙ c.in_first.ensures.counting
+    let own : IsHonest c.args.self.second = (c.begin-in-Ok.ensures.honest honest).0 in
+    c.begin-in-Ok.ensures.crash honest f h left right ∙ c.begin-in-Ok.ensures.counting
     ∙ sym (second_counts (text_in c.args.self.first) (text_in c.args.self.second) (c.if-is_empty.ensures.some own refl))
 
 pub returns-in-Err-clause-crash : goal.returns-in-Err-clause-crash
