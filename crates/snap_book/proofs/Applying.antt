@@ -1,7 +1,6 @@
 -- An operation with the charge that it needs.
-use Rattle.std.proofs.Common.{◌≡◌, ◌⊎◌, inl, inr, ℕ, Bool, true, false, ◌∷◌, None, Result, Ok, Err, refl, sym, ap, subst, ◌∙◌}
+use Rattle.std.proofs.Common.{◌≡◌, ◌⊎◌, inl, inr, Bool, true, false, ◌∷◌, None, Result, Ok, Err, refl, sym, ap, subst, ◌∙◌}
 use Rattle.std.specs.Prelude.{if◌then◌else◌, IfErr}
-use Rattle.std.specs.Result.{IsErrAnd}
 use Rattle.snap_path.specs.Memory.{no_memory}
 use Rattle.snap_layer.specs.Tree.{Tree}
 use Rattle.snap_usage.specs.declared.usage.Usage.{Usage}
@@ -15,11 +14,10 @@ use Rattle.snap_upper.specs.Memory.{TakesNoMemory}
 use Rattle.snap_upper.proofs.Sure.{lists_none}
 use Rattle.snap_upper.proofs.Uncharged.{after_needs_none}
 use Rattle.snap_ledger.specs.States.{ShareState}
-use Rattle.snap_book.specs.declared.operation.OpFault.{OpFault}
-use Rattle.snap_book.specs.declared.operation.OpFault.TheVariants.{File, Book, NoSession, OtherId}
+use Rattle.snap_book.specs.declared.charger.ApplyFault.TheVariants.{Charge}
 use Rattle.snap_book.specs.Active.{ActiveValue}
-use Rattle.snap_book.specs.Applied.{HasApplied, HasCovered, IsFaultOf, IsNotDone, Needs}
-use Rattle.snap_book.specs.Book.{BookValue}
+use Rattle.snap_book.specs.Applied.{IsFaultOf, Needs}
+use Rattle.snap_book.specs.Charging.{HasAppliedBy, HasCovered, IsNotDoneBy}
 use Rattle.snap_book.specs.Files.{worked}
 use Rattle.snap_book.specs.Wanted.{needed_by}
 
@@ -78,23 +76,16 @@ wanted_within op a need e next covered memory takes =
 abbrev with_share : ActiveValue → ShareState → ActiveValue
 with_share a s = record { namespace = a.namespace; key = a.key; lowers = a.lowers; layer = a.layer; share = s }
 
--- the charge wasn't made
-pub uncovered : (b c : BookValue) (n id : ℕ) (op : Op) (a : ActiveValue) (t : ShareState) (need extra : Usage) (fault : OpFault) → planned (after op a.layer a.lowers) ≡ Ok (record { after = need }) → HasCovered b c n id a.share t need extra (Err fault) → HasApplied b c n id a (with_share a t) op extra (Err fault)
-uncovered b c n id op a t need extra (File e) next h = absurd h
-uncovered b c n id op a t need extra (Book why) next h = (need, needed op a need next h.0, h.1, ap (with_share a) h.2)
-uncovered b c n id op a t need extra NoSession next h = (need, needed op a need next h.0, h.1, h.2, ap (with_share a) h.3)
-uncovered b c n id op a t need extra OtherId next h = (need, needed op a need next h.0, h.1, h.2, h.3, ap (with_share a) h.4)
+module _ {L E : Type 0} (G : L → L → ShareState → Usage → Usage → Usage → Type 0) (F : L → L → ShareState → Usage → Usage → E → Type 0) where
+  -- the charge wasn't made
+  pub uncovered : (b c : L) (op : Op) (a : ActiveValue) (t : ShareState) (need extra : Usage) (fault : E) → planned (after op a.layer a.lowers) ≡ Ok (record { after = need }) → HasCovered G F b c a.share t need extra (Err fault) → HasAppliedBy G F b c a (with_share a t) op extra (Err (Charge fault))
+  uncovered b c op a t need extra fault next h = (need, needed op a need next h.0, h.1, ap (with_share a) h.2)
 
--- it was covered, and memory was refused then
-pub unmade : (b c : BookValue) (n id : ℕ) (op : Op) (a : ActiveValue) (t : ShareState) (need extra : Usage) (e : FsError) → planned (after op a.layer a.lowers) ≡ Ok (record { after = need }) → HasCovered b c n id a.share t need extra (Ok tt) → e ≡ OutOfMemory no_memory → (TakesNoMemory op a.layer → ⊥) → IsNotDone b c n id a (with_share a t) op extra e
-unmade b c n id op a t need extra e next (covered, inl within) memory takes =
-    let left = wanted_within op a need e next within.0 memory takes in
-    inl (left.0, left.1, within.1, ap (with_share a) within.2)
-unmade b c n id op a t need extra e next (covered, inr charged) memory takes =
-    let found = counted (after op a.layer a.lowers) need next in
-    inr (need, needed op a need next charged.0, charged.1, (found.0, done op a t.usage need found.0 next covered found.1), memory, takes, ap (with_share a) charged.3)
-
--- the fault that is handed on
-pub same_fault : (r : Result Usage OpFault) (fault : OpFault) → IsErrAnd r (λ e. e ≡ fault) → Err fault ≡ r
-same_fault (Ok count) fault is = absurd is
-same_fault (Err e) fault is = ap (λ (x : OpFault). Err x) (sym is)
+  -- it was covered, and memory was refused then
+  pub unmade : (b c : L) (op : Op) (a : ActiveValue) (t : ShareState) (need extra : Usage) (e : FsError) → planned (after op a.layer a.lowers) ≡ Ok (record { after = need }) → HasCovered G F b c a.share t need extra (Ok tt) → e ≡ OutOfMemory no_memory → (TakesNoMemory op a.layer → ⊥) → IsNotDoneBy G F b c a (with_share a t) op extra e
+  unmade b c op a t need extra e next (covered, inl within) memory takes =
+      let left = wanted_within op a need e next within.0 memory takes in
+      inl (left.0, left.1, within.1, ap (with_share a) within.2)
+  unmade b c op a t need extra e next (covered, inr charged) memory takes =
+      let found = counted (after op a.layer a.lowers) need next in
+      inr (need, needed op a need next charged.0, charged.1, (found.0, done op a t.usage need found.0 next covered found.1), memory, takes, ap (with_share a) charged.3)

@@ -48,14 +48,12 @@ pub record IsRefused (b c : BookValue) (n id : ℕ) (s : ShareState) (need extra
   pub refused : RefusedBy b c n (need_call s need extra) Nothing why
   pub full : (why ≡ JournalFull) ↔ (b.limit ≤ length b.journal + open_count b.state.records)
 
--- what comes of a charge where the share doesn't cover the need, by the answer
-abbrev pub HasCovered : BookValue → BookValue → ℕ → ℕ → ShareState → ShareState → Usage → Usage → Result (Unit {0}) OpFault → Type 0
-HasCovered b c n id s t need extra (Ok done) = (covers t.usage need ≡ true)
-    × (((covers s.usage need ≡ true) × (c ≡ b) × (t ≡ s)) ⊎ ((covers s.usage need ≡ false) × IsGranted b c n id s need extra t.usage × Covers t.usage s.usage × (t ≡ record s { usage = t.usage })))
-HasCovered b c n id s t need extra (Err (File e)) = ⊥
-HasCovered b c n id s t need extra (Err (Book why)) = (covers s.usage need ≡ false) × IsRefused b c n id s need extra why × (t ≡ s)
-HasCovered b c n id s t need extra (Err NoSession) = (covers s.usage need ≡ false) × (b.state.sessions ≤ n) × (c ≡ b) × (t ≡ s)
-HasCovered b c n id s t need extra (Err OtherId) = (covers s.usage need ≡ false) × (n < b.state.sessions) × (s.id ≡ id → ⊥) × (c ≡ b) × (t ≡ s)
+-- why the charge isn't made: it was refused; or the session isn't open; or it is, and knows the snapshot by another id
+abbrev pub IsUncharged : BookValue → BookValue → ℕ → ℕ → ShareState → Usage → Usage → OpFault → Type 0
+IsUncharged b c n id s need extra (File e) = ⊥
+IsUncharged b c n id s need extra (Book why) = IsRefused b c n id s need extra why
+IsUncharged b c n id s need extra NoSession = (b.state.sessions ≤ n) × (c ≡ b)
+IsUncharged b c n id s need extra OtherId = (n < b.state.sessions) × (s.id ≡ id → ⊥) × (c ≡ b)
 
 -- the snapshot with this layer, and with a share of `now`; all else stays
 abbrev pub with_layer_and_share : ActiveValue → Tree → Usage → ActiveValue

@@ -11,3 +11,4 @@ pub mod Viewed
 pub mod Wanted
 pub mod Saved
 pub mod Applied
+pub mod Charging

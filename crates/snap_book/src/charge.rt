@@ -77,8 +77,9 @@ impl<N: StoreName> Book<N> {
         self.charge_share(session, &mut active.share, need, want)
     }
 
-    // A charge of the slot of a share.
-    pub(crate) fn charge_share(
+    /// Charges the slot of a share, as [`Book::charge`] does that of a snapshot, with the same refusals and cost. The slot
+    /// is one that a store can have.
+    pub fn charge_share(
         &mut self,
         session: u64,
         share: &mut Share<N>,

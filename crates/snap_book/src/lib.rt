@@ -21,6 +21,7 @@
 mod active;
 mod book;
 mod charge;
+mod charger;
 mod commit;
 mod files;
 mod journal;
@@ -36,6 +37,7 @@ mod viewed;
 pub use active::{Active, Held, Released, Sealed};
 pub use book::Book;
 pub use charge::{needed_by, wanted};
+pub use charger::{ApplyFault, Charger};
 pub use operation::OpFault;
 pub use snap_call::{
     Call, Config, Entry, Given, Namespace, Question, Refusal, Removed, Reply, SharedEntry,

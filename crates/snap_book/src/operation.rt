@@ -1,15 +1,15 @@
 // An operation on an open snapshot, with the charge that it needs.
-ghost use Rattle.std.specs.Prelude.{◌≡◌, ◌<◌};
-ghost use Rattle.snap_call.specs.Records.{max_slots};
-ghost use Rattle.snap_book.specs.Applied.{HasApplied, HasCovered};
+ghost use Rattle.std.specs.Prelude.{◌≡◌};
+ghost use Rattle.snap_book.specs.Applied.{HasApplied, IsGranted, IsUncharged};
 
 use crate::active::Active;
 use crate::book::Book;
 use crate::charge::wanted;
+use crate::charger::{ApplyFault, Charger};
 use snap_call::Refusal;
 use snap_ledger::{Share, StoreName};
 use snap_merge::FsError;
-use snap_upper::{Op, perform_op, prepare_op};
+use snap_upper::Op;
 use snap_usage::Usage;
 use thiserror::Error;
 
@@ -28,6 +28,42 @@ pub enum OpFault {
     /// It needs a charge, and the snapshot has another id.
     #[error("it needs a charge, and the snapshot has another id")]
     OtherId,
+}
+
+// A session of the book that charges the share of the snapshot of an id.
+#[derive(Clone, Copy)]
+struct BookCharger {
+    session: u64,
+    id: u32,
+}
+
+impl<N: StoreName> Charger<N> for BookCharger {
+    type Ledger = Book<N>;
+
+    type Fault = OpFault;
+
+    ghost grants = { λ by b c s need extra now. IsGranted b c by.session by.id s need extra now };
+
+    ghost refuses = { λ by b c s need extra fault. IsUncharged b c by.session by.id s need extra fault };
+
+    fn charge(
+        &self,
+        book: &mut Book<N>,
+        share: &mut Share<N>,
+        need: Usage,
+        extra: Usage,
+    ) -> Result<(), OpFault> {
+        if self.session >= book.sessions() {
+            return Err(OpFault::NoSession);
+        }
+        if share.id() != self.id {
+            return Err(OpFault::OtherId);
+        }
+        match book.charge_share(self.session, share, need, wanted(need, extra)) {
+            Ok(()) => Ok(()),
+            Err(why) => Err(OpFault::Book(why)),
+        }
+    }
 }
 
 impl<N: StoreName> Book<N> {
@@ -52,43 +88,10 @@ impl<N: StoreName> Book<N> {
     ) -> Result<Usage, OpFault>
         ensures { HasApplied self.old self.new session id active.old active.new op.now extra result }
     {
-        let lowers = active.lowers.as_slice();
-        let ready = match prepare_op(&active.layer, lowers, op) {
-            Ok(ready) => ready,
-            Err(error) => return Err(OpFault::File(error)),
-        };
-        let need = ready.after;
-        self.cover(session, id, &mut active.share, need, extra)?;
-        if let Err(error) = perform_op(&mut active.layer, lowers, ready) {
-            return Err(OpFault::File(error));
-        }
-        Ok(need)
-    }
-
-    // Charges the share for what is needed, where it doesn't cover that.
-    fn cover(
-        &mut self,
-        session: u64,
-        id: u32,
-        share: &mut Share<N>,
-        need: Usage,
-        extra: Usage,
-    ) -> Result<(), OpFault>
-        requires { share.old.slot < max_slots }
-        ensures { HasCovered self.old self.new session id share.old share.new need extra result }
-    {
-        if share.held().covers(need) {
-            return Ok(());
-        }
-        if session >= self.sessions() {
-            return Err(OpFault::NoSession);
-        }
-        if share.id() != id {
-            return Err(OpFault::OtherId);
-        }
-        match self.charge_share(session, share, need, wanted(need, extra)) {
-            Ok(()) => Ok(()),
-            Err(why) => Err(OpFault::Book(why)),
+        match active.apply_by(&BookCharger { session, id }, self, op, extra) {
+            Ok(count) => Ok(count),
+            Err(ApplyFault::File(error)) => Err(OpFault::File(error)),
+            Err(ApplyFault::Charge(fault)) => Err(fault),
         }
     }
 }

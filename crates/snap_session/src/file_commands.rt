@@ -38,7 +38,7 @@ fn unapplied(why: Unapplied) -> Result<Answer, NoMemory>
     }
 }
 
-// The operation; where it needs a charge, the charge, and where that is granted, the operation once more.
+// The operation, with the charge that it needs.
 pub(crate) fn tried<N: StoreName>(
     world: &mut World<N>,
     n: u64,

@@ -9,12 +9,14 @@
 #![tactic(auto)]
 
 mod cause;
+mod charger;
 mod close;
 mod note;
 mod plain;
 mod store;
 
 pub use cause::{Cause, OpenKey, close_cause};
+pub use charger::StoreCharger;
 pub use close::{Closed, NotClosed, NotOpened};
 pub use plain::Swept;
 pub use snap_path::NoMemory;

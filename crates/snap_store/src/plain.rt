@@ -109,7 +109,7 @@ impl<N: RoundName> Store<N> {
         if let Err(refused) = session.reserve(1) {
             return (Reply::Refused(refused.into()), Removed::none(self.alloc));
         }
-        let mut locked = self.book.lock(rt);
+        let mut locked = self.locked(rt);
         let Locked { book, tapes, .. } = &mut *locked;
         let (reply, removed) = book.do_call_apart(session.number(), call);
         note_entry(book, tapes, session, is_noted(&reply));
@@ -261,7 +261,7 @@ impl<N: RoundName> Store<N> {
     pub fn answer<R: Wait>(&self, rt: &R, question: &Question) -> Result<Reply, AllocError>
         ensures { IfOk result (λ reply. IsAnswer question.now reply) }
     {
-        let locked = self.book.lock(rt);
+        let locked = self.locked(rt);
         locked.book.answer(question)
     }
 

@@ -23,8 +23,9 @@ use snap_round::{Half, KnownRound, NewStore, RoundName, Tie};
 use snap_tape::{Session, TapeCount};
 use snap_usage::Usage;
 use std::alloc::{AllocError, Global};
+use std::hint::spin_loop;
 use std::marker::{Brand, Model};
-use std::sync::{Mutex, Wait};
+use std::sync::{Mutex, MutexGuard, Wait};
 
 // What the lock holds: the book, the half of the round that it is of, which takes no bytes, and how many entries the
 // sessions' tapes were given.
@@ -47,6 +48,20 @@ impl<N: RoundName> Model for Locked<N> {
 
     // The tapes were given each entry that was made.
     ghost invariant = { λ l. (l.half ≡ inner (round_of l.book)) × (l.tapes ≡ length l.book.journal) };
+}
+
+// How often a thread asks for the lock before it sleeps. A call takes microseconds under it, and a thread that sleeps has
+// to be woken, which takes longer than some calls.
+const TRIES: u32 = 100;
+
+// How often a thread pauses between two of them.
+const PAUSES: u32 = 20;
+
+// Lets other threads go on for some hundred cycles.
+fn pause() {
+    for _ in 0..PAUSES {
+        spin_loop();
+    }
 }
 
 /// A store of snapshots: a [`Book`] behind one lock, which any number of threads call at once, each by a
@@ -199,6 +214,17 @@ impl<N: RoundName> Store<N> {
         self.layer_inodes
     }
 
+    // The book, once no other thread has it.
+    pub(crate) fn locked<R: Wait>(&self, rt: &R) -> MutexGuard<'_, Locked<N>> {
+        for _ in 0..TRIES {
+            if let Some(guard) = self.book.try_lock() {
+                return guard;
+            }
+            pause();
+        }
+        self.book.lock(rt)
+    }
+
     /// Opens a session of the round. Its tape begins with the entry of this call.
     ///
     /// `OutOfMemory` and `JournalFull` as for every call; `NumbersSpent` after 65,536 sessions of the round.
@@ -209,7 +235,7 @@ impl<N: RoundName> Store<N> {
     {
         let mut tape = Vec::new(self.alloc);
         tape.reserve(1)?;
-        let mut locked = self.book.lock(rt);
+        let mut locked = self.locked(rt);
         let Locked { book, tapes, .. } = &mut *locked;
         let mut session = Session::of(book.open_session()?, tape);
         note_entry(book, tapes, &mut session, true);
@@ -237,7 +263,7 @@ impl<N: RoundName> Store<N> {
         ensures room { session.old.spare ≤ session.new.spare + 1 }
     {
         session.reserve(1)?;
-        let mut locked = self.book.lock(rt);
+        let mut locked = self.locked(rt);
         let Locked { book, tapes, .. } = &mut *locked;
         let n = session.number();
         match book.prepare_within(n, namespace, key, parent, labels, self.layer_inodes) {
@@ -270,7 +296,7 @@ impl<N: RoundName> Store<N> {
         ensures room { session.old.spare ≤ session.new.spare + 1 }
     {
         session.reserve(1)?;
-        let mut locked = self.book.lock(rt);
+        let mut locked = self.locked(rt);
         let Locked { book, tapes, .. } = &mut *locked;
         match book.view(session.number(), namespace, key, parent, labels) {
             Ok(viewed) => {
@@ -305,7 +331,7 @@ impl<N: RoundName> Store<N> {
         ensures same { IfErr result (λ why. active.new ≡ active.old) }
     {
         session.reserve(1)?;
-        let mut locked = self.book.lock(rt);
+        let mut locked = self.locked(rt);
         let Locked { book, tapes, .. } = &mut *locked;
         match book.charge(session.number(), active, need, want) {
             Ok(()) => {
@@ -335,7 +361,7 @@ impl<N: RoundName> Store<N> {
         ensures same { IfErr result (λ why. active.new ≡ active.old) }
     {
         session.reserve(1)?;
-        let mut locked = self.book.lock(rt);
+        let mut locked = self.locked(rt);
         let Locked { book, tapes, .. } = &mut *locked;
         match book.trim(session.number(), active) {
             Ok(()) => {
@@ -377,7 +403,7 @@ impl<N: RoundName> Store<N> {
             Ok(copies) => copies,
             Err(refused) => return Err((refused.into(), sealed)),
         };
-        let mut locked = self.book.lock(rt);
+        let mut locked = self.locked(rt);
         let Locked { book, tapes, .. } = &mut *locked;
         match book.commit(session.number(), name, lease, labels, sealed) {
             Ok(usage) => {
@@ -403,7 +429,7 @@ impl<N: RoundName> Store<N> {
         ensures held { result ≡ (share_of held).usage }
     {
         let released = held.release();
-        let mut locked = self.book.lock(rt);
+        let mut locked = self.locked(rt);
         let Locked { book, tapes, .. } = &mut *locked;
         let freed = book.take_back(session.number(), released);
         note_entry(book, tapes, session, true);

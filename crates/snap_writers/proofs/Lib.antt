@@ -1,4 +1,5 @@
 pub mod Needing
+pub mod Leaving
 pub mod Calling
 pub mod Erring
 pub mod Ending

@@ -1,13 +1,11 @@
 // An operation, with the charge that it needs.
-ghost use Rattle.std.specs.Prelude.{◌≡◌, ◌≤◌, ◌+◌, OnOk, OnErr, Ok, Err};
-ghost use Rattle.snap_merge.specs.declared.error.FsError.TheVariants.{NeedsCharge};
+ghost use Rattle.std.specs.Prelude.{◌≡◌, ◌≤◌, ◌+◌, OnOk, OnErr, Ok};
 ghost use Rattle.snap_upper.specs.After.{after};
-ghost use Rattle.snap_book.specs.Files.{worked};
-ghost use Rattle.snap_writers.specs.Run.{HasCharged, HasRun, IsSameSnapshot};
+ghost use Rattle.snap_writers.specs.Run.{HasRun, IsSameSnapshot};
 
-use snap_book::{Active, Refusal, needed_by, wanted};
+use snap_book::{Active, ApplyFault, Refusal};
 use snap_merge::FsError;
-use snap_store::{RoundName, Session, Store};
+use snap_store::{RoundName, Session, Store, StoreCharger};
 use snap_upper::Op;
 use snap_usage::Usage;
 use std::sync::Wait;
@@ -24,32 +22,9 @@ pub enum RunError {
     Book(Refusal),
 }
 
-// Charges the snapshot for the operation, which needs `need`, and does it.
-fn charge_and_apply<N: RoundName, R: Wait>(
-    store: &Store<N>,
-    rt: &R,
-    session: &mut Session,
-    active: &mut Active<N>,
-    op: &Op,
-    need: Usage,
-    want: Usage,
-) -> Result<(), RunError>
-    requires { worked op.now active.old.share.usage active.old.layer active.old.lowers ≡ Err (NeedsCharge need) }
-    ensures charged { HasCharged session.old session.new active.old active.new op.now need want result }
-    ensures room { session.old.spare ≤ session.new.spare + 1 }
-{
-    match store.charge(rt, session, active, need, want) {
-        Ok(()) => match active.apply(op) {
-            Ok(()) => Ok(()),
-            Err(error) => Err(RunError::File(error)),
-        },
-        Err(why) => Err(RunError::Book(why)),
-    }
-}
-
 /// Does the operation on the snapshot's layer. Where the share doesn't cover what the layer takes
 /// afterwards, it charges the snapshot for that, and for an extra amount too where the limit covers it
-/// ([`wanted`]), and does the operation then.
+/// ([`wanted`](snap_book::wanted)), and does the operation then.
 ///
 /// The session's tape gets an entry exactly where a charge was asked for and wasn't refused by
 /// `JournalFull` or `OutOfMemory`. `File` with the operation's error, or with `OutOfMemory`; `Book` with the
@@ -57,7 +32,7 @@ fn charge_and_apply<N: RoundName, R: Wait>(
 /// charge stays as spare, and the same operation again charges nothing.
 ///
 /// It waits for the store's lock where a charge is needed, and else for nobody. The cost is that of
-/// [`Active::apply`], twice where a charge is needed, and of [`Store::charge`].
+/// [`Active::apply_by`], and of [`Store::charge`] where a charge is needed.
 pub fn run<N: RoundName, R: Wait>(
     store: &Store<N>,
     rt: &R,
@@ -75,13 +50,11 @@ pub fn run<N: RoundName, R: Wait>(
     // All of it: which answer, what is on the tape, and the share.
     ensures run { HasRun session.old session.new active.old active.new op.now extra result }
 {
-    match active.apply(op) {
-        Ok(()) => Ok(()),
-        Err(error) => match needed_by(error) {
-            Some(need) => {
-                charge_and_apply(store, rt, session, active, op, need, wanted(need, extra))
-            }
-            None => Err(RunError::File(error)),
+    match active.apply_by(&StoreCharger { store, rt }, session, op, extra) {
+        Ok(_) => Ok(()),
+        Err(fault) => match fault {
+            ApplyFault::File(error) => Err(RunError::File(error)),
+            ApplyFault::Charge(why) => Err(RunError::Book(why)),
         },
     }
 }

@@ -1,53 +1,44 @@
-use Rattle.std.proofs.Common.{Option, Ok, Err, inr, refl, sym, subst}
-use Rattle.snap_usage.specs.declared.usage.Usage.{Usage}
-use Rattle.snap_book.specs.Active.{ActiveValue}
-use Rattle.snap_book.specs.Files.{worked}
-use Rattle.snap_writers.specs.Run.{HasCharged, HasFailed}
-use Rattle.snap_writers.specs.declared.running.RunError.TheVariants.{File}
-use Rattle.snap_writers.proofs.Needing.{as_outcome, no_error, sure_outcome}
+use Rattle.std.proofs.Common.{Ok, Err, subst}
+use Rattle.snap_call.specs.declared.refusal.Refusal.{Refusal}
+use Rattle.snap_book.specs.declared.charger.ApplyFault.{ApplyFault}
+use Rattle.snap_book.specs.declared.charger.ApplyFault.TheVariants.{File, Charge}
+use Rattle.snap_book.specs.Charging.{HasAppliedBy}
+use Rattle.snap_store.specs.Values.{HasChargedShare, HasRefusedShare}
+use Rattle.snap_writers.proofs.Leaving.{left, ran}
 use Rattle.snap_writers.proofs.running.run.Goals as goal
 
+pub returns-in-Ok-clause-done : goal.returns-in-Ok-clause-done
+returns-in-Ok-clause-done g c = (left c.args.session.now c.apply_by.new.ledger c.args.active.now c.apply_by.new.self c.args.op.now c.args.extra (Ok _) c.in-Ok.ensures).done
+
+pub returns-in-Ok-clause-same : goal.returns-in-Ok-clause-same
+returns-in-Ok-clause-same g c = (left c.args.session.now c.apply_by.new.ledger c.args.active.now c.apply_by.new.self c.args.op.now c.args.extra (Ok _) c.in-Ok.ensures).same
+
+pub returns-in-Ok-clause-room : goal.returns-in-Ok-clause-room
+returns-in-Ok-clause-room g c = (left c.args.session.now c.apply_by.new.ledger c.args.active.now c.apply_by.new.self c.args.op.now c.args.extra (Ok _) c.in-Ok.ensures).room
+
 pub returns-in-Ok-clause-run : goal.returns-in-Ok-clause-run
-returns-in-Ok-clause-run g c =
-    let old = c.args.active.now in
-    let done = c.in-Ok.ensures.ok in
-    record {
-      outcome = Ok c.apply.new.self.layer;
-      answer = inr (sym done);
-      first = λ plain. no_error c.apply.new.self.layer (worked c.args.op.now old.share.usage old.layer old.lowers) done;
-      follows = (refl, refl, c.in-Ok.ensures.same);
-    }
+returns-in-Ok-clause-run g c = ran c.args.session.now c.apply_by.new.ledger c.args.active.now c.apply_by.new.self c.args.op.now c.args.extra (Ok _) c.in-Ok.ensures
 
-pub returns-in-Some-clause-run : goal.returns-in-Some-clause-run
-returns-in-Some-clause-run g c =
-    let old = c.args.active.now in
-    let op = c.args.op.now in
-    let e = c.in-Err.error in
-    let s = c.args.session.now in
-    let t = c.charge_and_apply.new.session in
-    let new = c.charge_and_apply.new.active in
-    let result = c.charge_and_apply.result in
-    let outcome = worked op old.share.usage old.layer old.lowers in
-    let charged = subst (λ (a : ActiveValue). HasCharged s t a new op c.in-Some.need c.wanted.result result) c.in-Err.ensures.unchanged c.charge_and_apply.ensures.charged in
-    let wanted = subst (λ (u : Usage). HasCharged s t old new op c.in-Some.need u result) c.wanted.ensures charged in
-    record {
-      outcome = Err e;
-      answer = as_outcome e outcome c.in-Err.ensures.error;
-      first = λ plain. sure_outcome e outcome (c.in-Err.ensures.first plain);
-      follows = subst (λ (o : Option Usage). HasFailed s t old new op c.args.extra e o result) c.in-Some.ensures wanted;
-    }
+pub returns-in-File-clause-unchanged : goal.returns-in-File-clause-unchanged
+returns-in-File-clause-unchanged g c = (left c.args.session.now c.apply_by.new.ledger c.args.active.now c.apply_by.new.self c.args.op.now c.args.extra (Err (File c.in-File.error)) (subst (λ (x : ApplyFault Refusal). HasAppliedBy HasChargedShare HasRefusedShare c.args.session.now c.apply_by.new.ledger c.args.active.now c.apply_by.new.self c.args.op.now c.args.extra (Err x)) c.in-File.is c.in-Err.ensures)).unchanged
 
-pub returns-in-None-clause-run : goal.returns-in-None-clause-run
-returns-in-None-clause-run g c =
-    let old = c.args.active.now in
-    let op = c.args.op.now in
-    let e = c.in-Err.error in
-    let s = c.args.session.now in
-    let new = c.apply.new.self in
-    let outcome = worked op old.share.usage old.layer old.lowers in
-    record {
-      outcome = Err e;
-      answer = as_outcome e outcome c.in-Err.ensures.error;
-      first = λ plain. sure_outcome e outcome (c.in-Err.ensures.first plain);
-      follows = subst (λ (o : Option Usage). HasFailed s s old new op c.args.extra e o (Err (File e))) c.in-None.ensures (refl, refl, c.in-Err.ensures.unchanged);
-    }
+pub returns-in-File-clause-same : goal.returns-in-File-clause-same
+returns-in-File-clause-same g c = (left c.args.session.now c.apply_by.new.ledger c.args.active.now c.apply_by.new.self c.args.op.now c.args.extra (Err (File c.in-File.error)) (subst (λ (x : ApplyFault Refusal). HasAppliedBy HasChargedShare HasRefusedShare c.args.session.now c.apply_by.new.ledger c.args.active.now c.apply_by.new.self c.args.op.now c.args.extra (Err x)) c.in-File.is c.in-Err.ensures)).same
+
+pub returns-in-File-clause-room : goal.returns-in-File-clause-room
+returns-in-File-clause-room g c = (left c.args.session.now c.apply_by.new.ledger c.args.active.now c.apply_by.new.self c.args.op.now c.args.extra (Err (File c.in-File.error)) (subst (λ (x : ApplyFault Refusal). HasAppliedBy HasChargedShare HasRefusedShare c.args.session.now c.apply_by.new.ledger c.args.active.now c.apply_by.new.self c.args.op.now c.args.extra (Err x)) c.in-File.is c.in-Err.ensures)).room
+
+pub returns-in-File-clause-run : goal.returns-in-File-clause-run
+returns-in-File-clause-run g c = ran c.args.session.now c.apply_by.new.ledger c.args.active.now c.apply_by.new.self c.args.op.now c.args.extra (Err (File c.in-File.error)) (subst (λ (x : ApplyFault Refusal). HasAppliedBy HasChargedShare HasRefusedShare c.args.session.now c.apply_by.new.ledger c.args.active.now c.apply_by.new.self c.args.op.now c.args.extra (Err x)) c.in-File.is c.in-Err.ensures)
+
+pub returns-in-Charge-clause-unchanged : goal.returns-in-Charge-clause-unchanged
+returns-in-Charge-clause-unchanged g c = (left c.args.session.now c.apply_by.new.ledger c.args.active.now c.apply_by.new.self c.args.op.now c.args.extra (Err (Charge c.in-Charge.why)) (subst (λ (x : ApplyFault Refusal). HasAppliedBy HasChargedShare HasRefusedShare c.args.session.now c.apply_by.new.ledger c.args.active.now c.apply_by.new.self c.args.op.now c.args.extra (Err x)) c.in-Charge.is c.in-Err.ensures)).unchanged
+
+pub returns-in-Charge-clause-same : goal.returns-in-Charge-clause-same
+returns-in-Charge-clause-same g c = (left c.args.session.now c.apply_by.new.ledger c.args.active.now c.apply_by.new.self c.args.op.now c.args.extra (Err (Charge c.in-Charge.why)) (subst (λ (x : ApplyFault Refusal). HasAppliedBy HasChargedShare HasRefusedShare c.args.session.now c.apply_by.new.ledger c.args.active.now c.apply_by.new.self c.args.op.now c.args.extra (Err x)) c.in-Charge.is c.in-Err.ensures)).same
+
+pub returns-in-Charge-clause-room : goal.returns-in-Charge-clause-room
+returns-in-Charge-clause-room g c = (left c.args.session.now c.apply_by.new.ledger c.args.active.now c.apply_by.new.self c.args.op.now c.args.extra (Err (Charge c.in-Charge.why)) (subst (λ (x : ApplyFault Refusal). HasAppliedBy HasChargedShare HasRefusedShare c.args.session.now c.apply_by.new.ledger c.args.active.now c.apply_by.new.self c.args.op.now c.args.extra (Err x)) c.in-Charge.is c.in-Err.ensures)).room
+
+pub returns-in-Charge-clause-run : goal.returns-in-Charge-clause-run
+returns-in-Charge-clause-run g c = ran c.args.session.now c.apply_by.new.ledger c.args.active.now c.apply_by.new.self c.args.op.now c.args.extra (Err (Charge c.in-Charge.why)) (subst (λ (x : ApplyFault Refusal). HasAppliedBy HasChargedShare HasRefusedShare c.args.session.now c.apply_by.new.ledger c.args.active.now c.apply_by.new.self c.args.op.now c.args.extra (Err x)) c.in-Charge.is c.in-Err.ensures)

@@ -9,8 +9,10 @@ use Rattle.snap_round.specs.declared.rule.Round.{Round}
 use Rattle.snap_book.specs.Active.{fresh}
 use Rattle.snap_store.specs.Rounds.{HasLayers}
 use Rattle.snap_store.proofs.Handed.{no_base, one_for_each}
+use Rattle.snap_round.specs.Rounds.{inner}
 use Rattle.snap_store.proofs.Counted.{refused_made}
 use Rattle.snap_store.proofs.Noted.{refused_noted, taped}
+use Rattle.snap_store.proofs.Rounds.{refused_round}
 use Rattle.snap_store.proofs.store.Store.prepare.Goals as goal
 
 pub returns-in-Ok-clause-granted : goal.returns-in-Ok-clause-granted
@@ -41,3 +43,9 @@ note_entry-requires-in-Err-clause-made g c = refused_made _ _ _ _ _ _ _ _ c.dere
 
 pub returns-clause-refused : goal.returns-clause-refused
 returns-clause-refused g c = refused_noted _ _ _ _ _ _ _ _ _ _ c.reserve.ensures.same c.in_ok-reserve.ensures.room c.number-n.ensures c.in-Err.ensures.refused c.is_recorded.ensures c.note_entry-in-Err.ensures.entry
+
+pub invariant_of-t-20 : goal.invariant_of-t-20
+invariant_of-t-20 g c = (
+  c.deref_mut-2.invariant.0 ∙ ap inner (sym (c.note_entry-in-Err.ensures.round ∙ refused_round _ _ _ _ _ _ c.in-Err.ensures.refused)),
+  c.note_entry-in-Err.ensures.count,
+)
