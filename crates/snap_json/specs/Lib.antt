@@ -2,3 +2,4 @@ pub mod Writer
 pub mod Tokens
 pub mod View
 pub mod Objects
+pub mod Shallow

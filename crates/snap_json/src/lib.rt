@@ -8,6 +8,7 @@
 
 mod number;
 mod read;
+mod shallow;
 mod unreadable;
 mod value;
 mod writer;

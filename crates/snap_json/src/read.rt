@@ -14,7 +14,7 @@ use json::{Invalid, Reader, Scratch, Token};
 use std::alloc::Global;
 
 /// So deep arrays and objects nest at most.
-const MAX_DEPTH: usize = 127;
+pub(crate) const MAX_DEPTH: usize = 127;
 
 impl<'a> Value<'a> {
     /// Reads a text as `serde_json` reads it: arrays and objects nest at most 127 deep, and each number is in the
@@ -72,7 +72,7 @@ fn read_alone<'a>(alloc: Global, reader: &mut Reader<'a>) -> Result<Option<Value
 
 /// Checks the value that begins with the token.
 #[cycle(check)]
-fn check(token: Token<'_>, reader: &mut Reader<'_>, depth: usize) -> Result<(), Invalid>
+pub(crate) fn check(token: Token<'_>, reader: &mut Reader<'_>, depth: usize) -> Result<(), Invalid>
     ensures ok { OnOk result (rest_of (converted of_json (value depth (token_of token.entry ∷ reader.old))) ≡ Some reader.new) }
     ensures shorter { OnOk result (length reader.new ≤ length reader.old) }
     ensures not_json { OnErr result (converted of_json (value depth (token_of token.entry ∷ reader.old)) ≡ None) }
@@ -100,7 +100,7 @@ fn check(token: Token<'_>, reader: &mut Reader<'_>, depth: usize) -> Result<(), 
 }
 
 #[cycle(check)]
-fn check_items(reader: &mut Reader<'_>, depth: usize) -> Result<(), Invalid>
+pub(crate) fn check_items(reader: &mut Reader<'_>, depth: usize) -> Result<(), Invalid>
     ensures ok { OnOk result
         (rest_of (converted of_items (items (value depth) (length reader.old) reader.old)) ≡ Some reader.new) }
     ensures shorter { OnOk result (length reader.new < length reader.old) }
@@ -117,7 +117,7 @@ fn check_items(reader: &mut Reader<'_>, depth: usize) -> Result<(), Invalid>
 }
 
 #[cycle(check)]
-fn check_members(reader: &mut Reader<'_>, depth: usize) -> Result<(), Invalid>
+pub(crate) fn check_members(reader: &mut Reader<'_>, depth: usize) -> Result<(), Invalid>
     ensures ok { OnOk result
         (rest_of (converted (λ ms. of_members ms no_members)
         (members (value depth) (length reader.old) reader.old)) ≡ Some reader.new) }
@@ -171,7 +171,7 @@ fn read<'a>(alloc: Global, reader: &mut Reader<'a>, depth: usize) -> Result<Valu
 }
 
 #[cycle(read)]
-fn read_items<'a>(
+pub(crate) fn read_items<'a>(
     alloc: Global,
     reader: &mut Reader<'a>,
     depth: usize,
@@ -192,7 +192,7 @@ fn read_items<'a>(
 }
 
 #[cycle(read)]
-fn read_members<'a>(
+pub(crate) fn read_members<'a>(
     alloc: Global,
     reader: &mut Reader<'a>,
     depth: usize,
