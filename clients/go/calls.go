@@ -437,10 +437,23 @@ func (s *Store) leases(ctx context.Context, given fields) ([]Lease, error) {
 	return answer.Leases, err
 }
 
-// Tree tells all snapshots of a namespace, in byte order of their keys.
+// Tree tells all snapshots of a namespace, in byte order of their keys. Other lines wait until it has answered: TreeAll
+// asks for a page at a time.
 func (s *Store) Tree(ctx context.Context, namespace string) ([]Node, error) {
 	var answer struct{ Tree []Node }
 	err := s.call(ctx, "tree", fields{"ns": namespace}, nil, &answer)
+	return answer.Tree, err
+}
+
+// TreePage tells a page of the snapshots of a namespace, in byte order of their keys: of those after a key, or of all
+// where it is empty, the first max, 1 to 64, or 64 where it is 0.
+func (s *Store) TreePage(ctx context.Context, namespace, after string, max int) ([]Node, error) {
+	given := fields{"ns": namespace, "after": after}
+	if max != 0 {
+		given["max"] = max
+	}
+	var answer struct{ Tree []Node }
+	err := s.call(ctx, "tree", given, nil, &answer)
 	return answer.Tree, err
 }
 

@@ -21,6 +21,18 @@ func (s *Store) WalkAll(
 	})
 }
 
+// TreeAll calls a function with each snapshot of a namespace as a tree has it, in byte order of the keys, as WalkAll does.
+func (s *Store) TreeAll(ctx context.Context, namespace string, visit func(Node) error) error {
+	after := ""
+	return eachOf(visit, func() ([]Node, error) {
+		page, err := s.TreePage(ctx, namespace, after, pageSize)
+		if len(page) > 0 {
+			after = page[len(page)-1].Key
+		}
+		return page, err
+	})
+}
+
 // DiffAll calls a function with each path that a snapshot's layer changes, in order of the paths, as WalkAll does.
 func (s *Store) DiffAll(ctx context.Context, namespace, key string, visit func(Change) error) error {
 	after := ""

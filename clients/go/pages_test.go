@@ -26,10 +26,13 @@ func TestPages(t *testing.T) {
 			granted(t, store.LeaseCreate(ctx, "a", fmt.Sprintf("l%03d", n)))
 		}
 		views := all(t, func(visit func(Info) error) error { return store.WalkAll(ctx, "a", Filter{Kind: KindView}, visit) })
+		tree := all(t, func(visit func(Node) error) error { return store.TreeAll(ctx, "a", visit) })
+		equal(t, tree, must[[]Node](t)(store.Tree(ctx, "a")))
+		equal(t, tree[0], Node{Key: "base", Kind: KindCommitted, ID: 1, Usage: Usage{1, 1}, Children: count})
 		changes := all(t, func(visit func(Change) error) error { return store.DiffAll(ctx, "a", "k", visit) })
 		leases := all(t, func(visit func(Lease) error) error { return store.LeasesAll(ctx, "a", visit) })
 		entries := all(t, func(visit func(Entry) error) error { return store.JournalAll(ctx, "a", 1, visit) })
-		equal(t, []int{len(views), len(changes), len(leases)}, []int{count, count + 1, count})
+		equal(t, []int{len(views), len(tree), len(changes), len(leases)}, []int{count, count + 2, count + 1, count})
 		for n := 0; n < count; n++ {
 			equal(t, views[n].Name, fmt.Sprintf("v%03d", n))
 			equal(t, changes[n+1], Change{"added", fmt.Sprintf("/%03d", n)})
@@ -50,10 +53,12 @@ func TestEndOfPages(t *testing.T) {
 	enough, visited := errors.New("enough"), 0
 	stop := func() error { visited++; return enough }
 	isError(t, store.WalkAll(ctx, "a", Filter{}, func(Info) error { return stop() }), enough)
+	isError(t, store.TreeAll(ctx, "a", func(Node) error { return stop() }), enough)
 	isError(t, store.DiffAll(ctx, "a", "base", func(Change) error { return stop() }), enough)
 	isError(t, store.FullJournalAll(ctx, "a", 0, func(Entry) error { return stop() }), enough)
-	equal(t, visited, 3)
+	equal(t, visited, 4)
 	isError(t, store.WalkAll(ctx, "b", Filter{}, func(Info) error { return stop() }), ErrNoNamespace)
+	isError(t, store.TreeAll(ctx, "b", func(Node) error { return stop() }), ErrNoNamespace)
 	isError(t, store.LeasesAll(ctx, "b", func(Lease) error { return stop() }), ErrNoNamespace)
-	equal(t, visited, 3)
+	equal(t, visited, 4)
 }

@@ -219,6 +219,8 @@ func TestSnapshots(t *testing.T) {
 		{"base", "", KindCommitted, 1, Usage{1, 1}, 1},
 		{"v", "base", KindView, 2, Usage{}, 0},
 	})
+	equal(t, must[[]Node](t)(store.TreePage(ctx, "a", "", 1)), []Node{{"base", "", KindCommitted, 1, Usage{1, 1}, 1}})
+	equal(t, must[[]Node](t)(store.TreePage(ctx, "a", "base", 0)), []Node{{"v", "base", KindView, 2, Usage{}, 0}})
 	equal(t, must[[]Change](t)(store.Diff(ctx, "a", "base", "", 1)), []Change{{"added", "/"}})
 	equal(t, must[[]Change](t)(store.Diff(ctx, "a", "v", "/", 0)), []Change{})
 	equal(t, must[[]Entry](t)(store.Journal(ctx, "a", 6, 3)), []Entry{

@@ -210,6 +210,8 @@ class Commands(unittest.TestCase):
                 Node("v", "base", Kind.VIEW, 2, Usage(0, 0), 0),
             ),
         )
+        self.assertEqual(store.tree("a", max=1), (Node("base", "", Kind.COMMITTED, 1, Usage(4, 4), 1),))
+        self.assertEqual(store.tree("a", "base"), (Node("v", "base", Kind.VIEW, 2, Usage(0, 0), 0),))
         self.assertEqual(store.diff("a", "base", max=1), (Change("added", "/"),))
         self.assertEqual(store.diff("a", "v", after="/"), ())
         self.assertEqual(
@@ -350,6 +352,9 @@ class Commands(unittest.TestCase):
                 store.lease_create("a", name)
             self.assertEqual([it.name for it in store.iter_walk("a", page=2)], list("abcde"))
             self.assertEqual([it.name for it in store.iter_walk("a", "b", name="d")], ["d"])
+            self.assertEqual([it.key for it in store.iter_tree("a", page=2)], list("abcde"))
+            self.assertEqual(tuple(store.iter_tree("a")), store.tree("a"))
+            self.assertEqual([it.key for it in store.iter_tree("a", "b")], list("cde"))
             self.assertEqual(tuple(store.iter_leases("a")), store.leases("a"))
             store.prepare("a", "k", "")
             for name in "abcde":

@@ -280,10 +280,15 @@ class Snapshots(Calls):
         """The leases of a namespace, in the order in which they were created. The store tells all at once."""
         yield from self.leases(namespace)
 
-    def tree(self, namespace: str) -> tuple[Node, ...]:
-        """All snapshots of a namespace, in byte order of their keys."""
-        nodes = self._call("tree", ns=namespace)["tree"]
+    def tree(self, namespace: str, after: str | None = None, max: int | None = None) -> tuple[Node, ...]:
+        """The snapshots of a namespace, in byte order of their keys: all of them, or where `after` or `max` is given a page,
+        from the key `after` on."""
+        nodes = self._call("tree", ns=namespace, after=after, max=max)["tree"]
         return tuple(_of_kind(Node, {**it, "usage": Usage(*it["usage"])}) for it in nodes)
+
+    def iter_tree(self, namespace: str, after: str = "", *, page: int | None = None) -> Iterator[Node]:
+        """All snapshots of a namespace after the key `after`. `page` is how many are asked for at a time."""
+        return _each(lambda after: self.tree(namespace, after, page), after, lambda node: node.key)
 
     def diff(self, namespace: str, key: str, after: str | None = None, max: int | None = None) -> tuple[Change, ...]:
         """A page of what a snapshot's layer changes, in order of the paths, from the path `after` on."""

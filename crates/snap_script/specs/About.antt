@@ -99,7 +99,7 @@ malformed_update key labels paths =
     else if not (list_all is_update_path paths) then fields.Paths
     else if replaces_all paths then fields.Labels else fields.Paths
 
--- of a walk
+-- of a walk, and of a page of a tree
 abbrev pub malformed_walk : Bytes → Field
 malformed_walk after = if is_start after then fields.Most else fields.After
 
@@ -134,6 +134,7 @@ subjects (commands.Commit namespace key name lease labels) = commit_subjects nam
 subjects (commands.Charge namespace key need want) = record key_subjects { amount = Some fields.Need }
 subjects (commands.Batch namespace key need ops whole) = record key_subjects { amount = Some fields.Need }
 subjects (commands.File namespace key (Err field) extra) = record key_subjects { path = field }
+subjects (commands.Tree namespace (Some page)) = record key_subjects { malformed = malformed_walk page.after }
 subjects (commands.Diff namespace key after most) = record key_subjects { malformed = fields.Most; path = fields.After }
 subjects (commands.Journal namespace after most full) = record key_subjects { malformed = fields.Most }
 subjects (commands.Reopen journal) = record key_subjects { malformed = fields.Journal }

@@ -1,6 +1,6 @@
 -- The commands of a script; cited by the public clause of `read_line` through Lines.antt. The fields of a command are
 -- tested in the order in which they stand.
-use Rattle.std.specs.Prelude.{ℕ, Bool, [], false, if◌then◌else◌, Option, None, unwrap_or, Result, Ok}
+use Rattle.std.specs.Prelude.{ℕ, Bool, [], false, if◌then◌else◌, Option, None, Some, unwrap_or, Result, Ok}
 use Rattle.serde_json.specs.Data.{Data}
 use Rattle.serde_json.specs.Find.{as_bool, as_str}
 use Rattle.snap_path.specs.Limits.{most_file_bytes}
@@ -23,6 +23,7 @@ use Rattle.snap_script.specs.declared.fault.Fault.{Fault}
 use Rattle.snap_script.specs.declared.command.Command.{Command}
 use Rattle.snap_script.specs.declared.command.Command.TheVariants as commands
 use Rattle.snap_script.specs.declared.command.Lookup.{Lookup}
+use Rattle.snap_script.specs.declared.command.Page.{Page}
 use Rattle.snap_script.specs.declared.command.Lookup.TheVariants as lookups
 use Rattle.snap_script.specs.declared.unknown.FieldRule.{FieldRule}
 use Rattle.snap_script.specs.declared.verb.Verb.{Verb}
@@ -101,6 +102,15 @@ lookup_of lookup_verbs.Read line = do Ok (read_asked (← given as_natural field
 lookup_of lookup_verbs.Resolve line = Ok lookups.Resolve
 lookup_of lookup_verbs.Usage line = Ok lookups.Usage
 
+-- the page of a list that is asked for, by what it begins after and by the most items that it has: none where neither is there, else from the first item on where nothing is named, and of 64 items where no number is
+abbrev pub page_asked : Option Bytes → Option ℕ → Option Page
+page_asked None None = None
+page_asked after most = Some (record { after = unwrap_or after []; most = unwrap_or most 64 })
+
+-- the page that a line asks for
+unfoldable pub page_in : Data → Result (Option Page) Fault
+page_in line = do Ok (page_asked (← given as_str fields.After line) (← given as_natural fields.Most line))
+
 -- a batch on a snapshot s: what it charges, the operations, as a job has them, and whether all are done or none
 unfoldable pub batch_of : FieldRule → Data → Result Command Fault
 batch_of rule line = do s ← named line; need ← required as_usage fields.Need line; ops ← operations rule line; Ok (commands.Batch s.0 s.1 need ops (← optional as_bool fields.Whole (Ok false) line))
@@ -124,7 +134,7 @@ command_of rule verbs.Batch line = batch_of rule line
 command_of rule (verbs.Lookup verb) line = do s ← named line; path ← path_in fields.Path line; asked ← lookup_of verb line; Ok (commands.Lookup s.0 s.1 asked path (← optional as_bool fields.Peek (Ok false) line))
 command_of rule verbs.Quota line = do Ok (commands.Quota (← given as_str fields.Namespace line))
 command_of rule verbs.Leases line = do Ok (commands.Leases (← text fields.Namespace line) (← given as_str fields.Lease line))
-command_of rule verbs.Tree line = do Ok (commands.Tree (← text fields.Namespace line))
+command_of rule verbs.Tree line = do Ok (commands.Tree (← text fields.Namespace line) (← page_in line))
 command_of rule verbs.Diff line = diff_of line
 command_of rule verbs.Journal line = do Ok (commands.Journal (← given as_str fields.Namespace line) (← optional as_natural fields.After (Ok 0) line) (← optional as_natural fields.Most (Ok 64) line) (← optional as_bool fields.Full (Ok false) line))
 command_of rule verbs.Report line = Ok commands.Report

@@ -11,6 +11,16 @@ use snap_upper::Op;
 use snap_usage::Usage;
 use std::alloc::{AllocError, Global};
 
+/// A page of a list that is asked for: of its items in byte order of their names the first `most` that come after a text,
+/// or after none where it is empty.
+#[derive(Drop)]
+pub struct Page<'line> {
+    /// What the page begins after.
+    pub after: LentText<'line>,
+    /// How many items it has at most.
+    pub most: u64,
+}
+
 /// A command of a script. Texts that only look something up are lent by its line; those that go into an entry of the
 /// journal or into a record are the command's own.
 #[derive(Drop)]
@@ -107,9 +117,10 @@ pub enum Command<'line> {
         namespace: LentText<'line>,
         lease: Option<LentText<'line>>,
     },
-    /// Asks for the snapshots of a namespace, as a forest by parent.
+    /// Asks for the snapshots of a namespace, as a forest by parent: for all of them, or for a page.
     Tree {
         namespace: LentText<'line>,
+        page: Option<Page<'line>>,
     },
     /// Asks for what the snapshot's layer changes of what its ancestors show: of the changes after a path, or of all
     /// where its text is empty, at most `most`.

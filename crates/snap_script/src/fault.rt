@@ -229,7 +229,7 @@ impl Field {
             ),
             Field::After => (
                 Found::Text,
-                "a text in a walk or a diff, a number of digits alone below 2^64 in a journal or a save",
+                "a text in a walk, a tree or a diff, a number of digits alone below 2^64 in a journal or a save",
             ),
             Field::Kind => (Found::Text, "View, Active or Committed"),
             Field::Path | Field::From | Field::To => (Found::Text, "a path"),

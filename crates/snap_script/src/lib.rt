@@ -29,7 +29,7 @@ mod verb;
 
 pub use about::Subjects;
 pub use answer::{Answer, JournalEntry, QuotaInfo, RefusedOperation, Shown, TreeNode};
-pub use command::{Command, Lookup, names_of};
+pub use command::{Command, Lookup, Page, names_of};
 pub use fault::{Fault, Field, Found, OperationFault, ReadError};
 pub use lent::LentText;
 pub use line::{Line, MAX_LINE_BYTES, command_in, is_empty, read_line, read_object, read_open};

@@ -2,11 +2,11 @@
 ghost use Rattle.std.specs.Prelude.{◌≡◌};
 ghost use Rattle.snap_json.specs.View.{view};
 ghost use Rattle.snap_history.specs.declared.kind.CallKind.TheVariants as kinds;
-ghost use Rattle.snap_script.specs.Commands.{named, config_of, filter_of, asked_as, asked_by, call_of, read_asked, lookup_of, diff_of, command_of};
+ghost use Rattle.snap_script.specs.Commands.{named, config_of, filter_of, asked_as, asked_by, call_of, read_asked, lookup_of, page_asked, page_in, diff_of, command_of};
 ghost use Rattle.snap_script.specs.Gives.{Gives};
 
 use crate::batch::batch;
-use crate::command::{Command, Lookup};
+use crate::command::{Command, Lookup, Page};
 use crate::fault::{Fault, Field, ReadError};
 use crate::fields::{
     is_true, label_filters, labels, labels_of_update, lent_optional_text, lent_text, namespaces,
@@ -30,7 +30,8 @@ use std::alloc::Global;
 /// The id of a store's first snapshot.
 const FIRST_ID: u32 = 1;
 
-/// How many snapshots a walk gives at most, entries a journal, and changes a diff, where the line doesn't say.
+/// How many snapshots a walk and a page of a tree give at most, entries a journal, and changes a diff, where the line
+/// doesn't say.
 const PAGE: u64 = 64;
 
 /// How many lines a `save` gives at most, whatever the line says.
@@ -380,6 +381,31 @@ fn read_asked(offset: Option<u64>, most: Option<u64>) -> Lookup
     }
 }
 
+/// The page of a list that is asked for by what it begins after and by its number of items, if one of them is there.
+fn page_asked<'a>(after: Option<LentText<'a>>, most: Option<u64>) -> Option<Page<'a>>
+    ensures { result ≡ page_asked after.entry most }
+{
+    match (after, most) {
+        (None, None) => None,
+        (Some(after), None) => Some(Page { after, most: PAGE }),
+        (None, Some(most)) => Some(Page {
+            after: LentText::new(""),
+            most,
+        }),
+        (Some(after), Some(most)) => Some(Page { after, most }),
+    }
+}
+
+/// The page that a line asks for.
+#[tactic(auto, unfolding(crate::specs::Commands::page_in))]
+fn page_in<'a>(line: &Value<'a>) -> Result<Option<Page<'a>>, Fault>
+    ensures { result ≡ page_in (view line.now) }
+{
+    let after = lent_optional_text(Field::After, line)?;
+    let most = optional_number(Field::Most, line)?;
+    Ok(page_asked(after, most))
+}
+
 /// What a line asks of a path.
 #[tactic(auto, unfolding(crate::specs::Commands::lookup_of))]
 fn lookup_of(verb: LookupVerb, line: &Value<'_>) -> Result<Lookup, Fault>
@@ -449,6 +475,7 @@ pub(crate) fn command_of<'a>(
         }),
         Verb::Tree => Ok(Command::Tree {
             namespace: LentText::new(lent_text(Field::Namespace, line)?),
+            page: page_in(line)?,
         }),
         Verb::Diff => diff(alloc, line),
         Verb::Journal => Ok(Command::Journal {

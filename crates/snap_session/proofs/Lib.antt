@@ -11,5 +11,7 @@ mod Applying
 mod Paging
 mod Restoring
 mod Told
+mod TreePages
+mod TreeLaws
 pub mod Whole
 pub mod ToldLaws

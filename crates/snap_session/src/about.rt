@@ -80,7 +80,7 @@ fn malformed_namespace(name: &str, limit: Usage) -> Field
     }
 }
 
-// What is malformed of a walk.
+// What is malformed of a walk, and of a page of a tree.
 fn malformed_walk(after: &str) -> Field
     ensures { result ≡ malformed_walk after.now }
 {
@@ -175,6 +175,10 @@ pub(crate) fn subjects(command: &Command<'_>) -> Subjects
             operation: Err(field),
             ..
         } => own.path = *field,
+        Command::Tree {
+            page: Some(page),
+            ..
+        } => own.malformed = malformed_walk(page.after.as_str()),
         Command::Diff { .. } => {
             own.malformed = Field::Most;
             own.path = Field::After;

@@ -41,3 +41,4 @@ pub use server::{Server, serve};
 pub use snap_lines::{LineFault, Stop};
 pub use snap_world::NoMemory;
 pub use stepper::Stepper;
+pub use tree::tree_pages;

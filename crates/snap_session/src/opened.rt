@@ -174,7 +174,7 @@ fn on_store<N: StoreName>(
         )),
         Command::Quota { namespace } => quota(alloc, world, namespace),
         Command::Leases { namespace, lease } => leases(alloc, world, namespace.as_str(), lease),
-        Command::Tree { namespace } => tree(alloc, world, namespace.as_str()),
+        Command::Tree { namespace, page } => tree(alloc, world, namespace.as_str(), &page),
         Command::Diff {
             namespace,
             key,

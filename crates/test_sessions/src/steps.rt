@@ -19,6 +19,7 @@ fn ask<N: StoreName>(script: &mut Script<N>, name: Option<&Text>) -> Result<Answ
             None => Command::Report,
             Some(name) => Command::Tree {
                 namespace: LentText::new(name.as_str()),
+                page: None,
             },
         };
         if let Ok(answer) = script.act(0, command) {
