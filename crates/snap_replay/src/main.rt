@@ -1,8 +1,7 @@
 //! The program `snap_replay`: `snap_replay run` replays a script of a store of snapshots, `snap_replay serve` answers
 //! each line of a client, and `snap_replay writers` runs jobs on a store, from standard input to standard output.
-//! `snap_replay save` moves a store in a file, `snap_replay check` tells whether a log or a saved store is whole, and
-//! what it has, `snap_replay diff` in what the stores of two such files differ, and `snap_replay checkpoint` makes a log
-//! short.
+//! `save` moves a store in a file, `check` tells whether a log or a saved store is whole, and what it has, `diff` in what
+//! the stores of two such files differ, and `checkpoint` makes a log short.
 //!
 //! What is read and written is `replay`'s and `serve`'s, of the crate `snap_session`, and `write_jobs`'s, of `snap_jobs`;
 //! here are the words of the command line, the standard streams and the status.
